@@ -1,0 +1,415 @@
+/* Compares the library and the plain C call by call: numbers, outputs with their untouched rest, states, flash. */
+#include <stdio.h>
+#include <stdlib.h>
+#include <string.h>
+
+#include "childbus.h"
+#include "jobs.h"
+
+static uint32_t get32(const uint8_t *b)
+{
+    return b[0] | (uint32_t)b[1] << 8 | (uint32_t)b[2] << 16 | (uint32_t)b[3] << 24;
+}
+
+static void put32(uint8_t *out, uint32_t value)
+{
+    for (int i = 0; i < 4; i++)
+        out[i] = (uint8_t)(value >> 8 * i);
+}
+
+static size_t least(size_t a, size_t b)
+{
+    return a < b ? a : b;
+}
+
+/* The same state, bytes without meaning aside. */
+static bool same_state(const uint8_t *b, const struct plain_state *s)
+{
+    return b[CHILDBUS_STATE_ADDRESS_KIND] == s->has_address &&
+           (!s->has_address || b[CHILDBUS_STATE_OWN_ADDRESS] == s->address) &&
+           b[CHILDBUS_STATE_RUNNING] == s->running && get32(b + CHILDBUS_STATE_NEXT) == s->next &&
+           get32(b + CHILDBUS_STATE_WAITING_COUNT) == s->w && get32(b + CHILDBUS_STATE_ERASE_COUNT) == s->count &&
+           get32(b + CHILDBUS_STATE_REPLY_LENGTH) == s->reply_len &&
+           memcmp(b + CHILDBUS_STATE_WAITING, s->waiting, least(s->w, sizeof s->waiting)) == 0 &&
+           memcmp(b + CHILDBUS_STATE_REPLY, s->reply, least(s->reply_len, sizeof s->reply)) == 0;
+}
+
+/* The benchmark's inputs. */
+
+static bool job_agrees(const struct job *job)
+{
+    make_inputs(job);
+    set_up(job, LIBRARY);
+    set_up(job, PLAIN);
+    uint8_t *out = boards.out[LIBRARY];
+    uint8_t *plain_out = boards.out[PLAIN];
+    for (size_t i = 0; i < input_count; i++) {
+        const struct input *in = &inputs[i];
+        const uint8_t *bytes = pool + in->at;
+        uint32_t number = 0, plain_number = 0, status = 0, plain_status = 0;
+        size_t made = 0, plain_made = 0, start = 0, plain_start = 0;
+        switch (job->kind) {
+        case UPLOAD_FIRST:
+        case UPLOAD_REPEATED:
+        case READ_BACK:
+            number = childbus_receive(boards.profile, sizeof boards.profile, boards.state, sizeof boards.state, ADDRESS,
+                                      bytes, in->len, boards.flash[LIBRARY], FLASH, out, job->frame, &made);
+            plain_number = plain_receive(&boards.plain_profile, &boards.plain_state, ADDRESS, bytes, in->len,
+                                         boards.flash[PLAIN], FLASH, plain_out, job->frame, &plain_made);
+            break;
+        case READ_REPLY:
+            number = childbus_read(boards.profile, sizeof boards.profile, boards.state, sizeof boards.state, ADDRESS,
+                                   boards.flash[LIBRARY], FLASH, out, job->frame, &made);
+            plain_number = plain_read(&boards.plain_profile, &boards.plain_state, ADDRESS, FLASH, plain_out, job->frame,
+                                      &plain_made);
+            break;
+        case ENCODE_WRITE:
+        case ENCODE_SHORT:
+            number = childbus_encode(job->bus, job->frame, in->code, ADDRESS, in->a, in->b, bytes, in->len, out,
+                                     job->frame, &made);
+            plain_number = plain_encode(job->bus, job->frame, in->code, ADDRESS, in->a, in->b, bytes, in->len,
+                                        plain_out, job->frame, &plain_made);
+            break;
+        case DECODE_FULL:
+        case DECODE_SHORT:
+            number = childbus_decode(job->bus, in->code, ADDRESS, in->b, bytes, in->len, &status, &start, &made);
+            plain_number = plain_decode(job->bus, in->code, ADDRESS, in->b, bytes, in->len, &plain_status,
+                                        &plain_start, &plain_made);
+            break;
+        case TWO_READS:
+            /* 2 is the answer that is measured: the first read is damaged */
+            number = childbus_two_reads(in->code, in->b, pool + inputs[1].at, inputs[1].len, pool + inputs[0].at,
+                                        inputs[0].len, &start, &made) ^ 2;
+            plain_number = plain_two_reads(in->code, in->b, pool + inputs[1].at, inputs[1].len, pool + inputs[0].at,
+                                           inputs[0].len, &plain_start, &plain_made) ^ 2;
+            break;
+        }
+        if (number != 0 || number != plain_number || made != plain_made || status != plain_status ||
+            start != plain_start || memcmp(out, plain_out, sizeof boards.out[0]) != 0 ||
+            !same_state(boards.state, &boards.plain_state) ||
+            memcmp(boards.flash[LIBRARY], boards.flash[PLAIN], FLASH) != 0) {
+            printf("%s, bus %u, frames of %u: the sides differ at call %zu (library %u, plain %u)\n",
+                   kind_name(job->kind), (unsigned)job->bus, (unsigned)job->frame, i, (unsigned)number,
+                   (unsigned)plain_number);
+            return false;
+        }
+    }
+    return true;
+}
+
+/* Random inputs. Most are nearly right, so that every rule and every refusal is met. */
+
+static uint64_t random_state = 88172645463325252u;
+
+static uint32_t any(void)
+{
+    random_state ^= random_state << 13;
+    random_state ^= random_state >> 7;
+    random_state ^= random_state << 17;
+    return (uint32_t)(random_state >> 16);
+}
+
+static uint32_t below(uint32_t n)
+{
+    return any() % n;
+}
+
+static bool one_in(uint32_t n)
+{
+    return below(n) == 0;
+}
+
+enum { SMALL_FLASH = 64 * 8 };
+
+struct trial {
+    uint8_t profile[36], state[344], before[344], flash[SMALL_FLASH], out[300], bytes[600];
+    size_t profile_len, state_len, flash_len, out_len, len;
+    struct plain_profile plain_profile;
+    struct plain_state plain_state;
+    uint8_t plain_flash[SMALL_FLASH], plain_out[300];
+};
+
+static struct trial t;
+
+static void random_profile(void)
+{
+    struct plain_profile *p = &t.plain_profile;
+    *p = (struct plain_profile){.bus = (uint8_t)below(2), .hardware = (uint8_t)(1 + below(3)),
+                                .compatible = (uint8_t)any(), .actual = (uint8_t)any(), .bootloader = (uint8_t)any(),
+                                .serial_len = (uint8_t)below(17), .longest = one_in(2) ? 32 + below(8) : 32 + below(225),
+                                .size = 64 * (1 + below(4)), .offset = 64 * below(4)};
+    for (int i = 0; i < PLAIN_SERIAL_MAX; i++)
+        p->serial[i] = (uint8_t)any();
+    if (one_in(40)) {
+        static const uint32_t odd[] = {0, 1, 31, 63, 65, 257, 65471, 65473, 65536, 4294967295u};
+        uint32_t value = odd[below(sizeof odd / sizeof odd[0])];
+        switch (below(6)) {
+        case 0: p->bus = (uint8_t)(2 + below(254)); break;
+        case 1: p->hardware = 0; break;
+        case 2: p->serial_len = (uint8_t)(17 + below(239)); break;
+        case 3: p->longest = value; break;
+        case 4: p->size = value; break;
+        default: p->offset = value; break;
+        }
+    }
+    for (int i = 0; i < 36; i++)
+        t.profile[i] = (uint8_t)any();
+    t.profile[CHILDBUS_PROFILE_BUS] = p->bus;
+    t.profile[CHILDBUS_PROFILE_HARDWARE] = p->hardware;
+    t.profile[CHILDBUS_PROFILE_COMPATIBLE] = p->compatible;
+    t.profile[CHILDBUS_PROFILE_ACTUAL] = p->actual;
+    t.profile[CHILDBUS_PROFILE_BOOTLOADER] = p->bootloader;
+    t.profile[CHILDBUS_PROFILE_SERIAL_LENGTH] = p->serial_len;
+    put32(t.profile + CHILDBUS_PROFILE_LONGEST, p->longest);
+    put32(t.profile + CHILDBUS_PROFILE_SIZE, p->size);
+    put32(t.profile + CHILDBUS_PROFILE_OFFSET, p->offset);
+    memcpy(t.profile + CHILDBUS_PROFILE_SERIAL, p->serial, PLAIN_SERIAL_MAX);
+    t.profile_len = one_in(200) ? below(CHILDBUS_PROFILE_BYTES) : CHILDBUS_PROFILE_BYTES;
+}
+
+/* Fresh or, now and then, any state, malformed ones too. */
+static void random_state_of(void)
+{
+    struct plain_state *s = &t.plain_state;
+    plain_fresh(s);
+    if (one_in(2)) {
+        s->has_address = one_in(2);
+        s->address = (uint8_t)(one_in(4) ? any() : 8 + below(3));
+        s->running = one_in(10);
+        s->next = below(t.plain_profile.size % 1000 + 2);
+        s->w = below(s->next % 64 + (one_in(20) ? 2 : 1));
+        s->count = below(4);
+        if (t.plain_profile.bus == PLAIN_I2C || one_in(20))
+            s->reply_len = one_in(20) ? below(300) : below(6);
+        for (int i = 0; i < PLAIN_PAGE; i++)
+            s->waiting[i] = one_in(8) ? (uint8_t)any() : 0xff;
+        for (int i = 0; i < PLAIN_FRAME_MAX; i++)
+            s->reply[i] = (uint8_t)any();
+        if (one_in(40))
+            *(one_in(2) ? &s->next : one_in(2) ? &s->w : &s->count) = any();
+    }
+    for (size_t i = 0; i < sizeof t.state; i++)
+        t.state[i] = (uint8_t)any();
+    t.state[CHILDBUS_STATE_ADDRESS_KIND] = s->has_address;
+    t.state[CHILDBUS_STATE_OWN_ADDRESS] = s->address;
+    t.state[CHILDBUS_STATE_RUNNING] = s->running;
+    put32(t.state + CHILDBUS_STATE_NEXT, s->next);
+    put32(t.state + CHILDBUS_STATE_WAITING_COUNT, s->w);
+    put32(t.state + CHILDBUS_STATE_ERASE_COUNT, s->count);
+    put32(t.state + CHILDBUS_STATE_REPLY_LENGTH, s->reply_len);
+    memcpy(t.state + CHILDBUS_STATE_WAITING, s->waiting, PLAIN_PAGE);
+    memcpy(t.state + CHILDBUS_STATE_REPLY, s->reply, PLAIN_FRAME_MAX);
+    t.state_len = CHILDBUS_STATE_BYTES;
+}
+
+/* A request that fits the board, with a right check sum; now and then damaged or cut. */
+static void random_frame(void)
+{
+    const struct plain_profile *p = &t.plain_profile;
+    uint8_t *f = t.bytes;
+    size_t at = 0;
+    if (p->bus != PLAIN_I2C)
+        f[at++] = (uint8_t)(one_in(10) ? below(20) : t.plain_state.has_address ? t.plain_state.address : 8 + below(8));
+    if (one_in(12)) { /* a general call, or nearly one */
+        at = 0;
+        if (p->bus != PLAIN_I2C)
+            f[at++] = 0;
+        f[at++] = (uint8_t)((one_in(2) ? 0x40 : 0) | (one_in(2) ? 4 : 6));
+        if (p->bus == PLAIN_I2C) {
+            t.len = at;
+            return;
+        }
+    } else {
+        uint8_t code = (uint8_t)(one_in(2) ? 0x06 : below(17));
+        size_t args = code == 0x06 ? 2 + below(one_in(2) ? 30 : p->longest % 260 + 1) : code == 0x08 ? 3 : code == 0x01 ? 2 : 0;
+        if (one_in(12))
+            args = below(8);
+        f[at++] = code;
+        for (size_t i = 0; i < args; i++)
+            f[at + i] = one_in(6) ? (uint8_t)any() : 0xff;
+        if (code == 0x01 && args == 2) {
+            f[at] = (uint8_t)(one_in(3) ? any() : 8 + below(4));
+            f[at + 1] = (uint8_t)below(4);
+        } else if (args >= 2) {
+            uint32_t place = code == 0x08 ? below(70) : one_in(3) ? 0 : one_in(6) ? any() : t.plain_state.next;
+            f[at] = (uint8_t)(place >> 8);
+            f[at + 1] = (uint8_t)place;
+            if (code == 0x08 && args == 3)
+                f[at + 2] = (uint8_t)below(one_in(2) ? 40 : 256);
+        }
+        at += args;
+    }
+    if (p->bus == PLAIN_I2C) {
+        f[at] = plain_crc8(f, at);
+        at += 1;
+    } else {
+        uint16_t crc = plain_crc16(f, at);
+        f[at] = (uint8_t)crc;
+        f[at + 1] = (uint8_t)(crc >> 8);
+        at += 2;
+    }
+    if (one_in(12))
+        f[below((uint32_t)at)] ^= (uint8_t)(1u << below(8));
+    if (one_in(20))
+        at = below((uint32_t)at + 1);
+    t.len = at;
+}
+
+static bool differ(const char *what, size_t turn)
+{
+    printf("random %s: the sides differ at turn %zu\n", what, turn);
+    return false;
+}
+
+/* A list of calls to one board. */
+static bool board_turn(size_t turn)
+{
+    random_profile();
+    random_state_of();
+    t.flash_len = one_in(40) ? below(SMALL_FLASH) : SMALL_FLASH;
+    for (size_t i = 0; i < SMALL_FLASH; i++)
+        t.flash[i] = t.plain_flash[i] = one_in(8) ? (uint8_t)any() : 0xff;
+    for (uint32_t call = 0; call < 12; call++) {
+        uint32_t m = t.plain_profile.longest;
+        t.out_len = one_in(40) ? below(m % 300 + 1) : sizeof t.out;
+        memset(t.out, 0xa5, sizeof t.out);
+        memset(t.plain_out, 0xa5, sizeof t.plain_out);
+        if (one_in(60)) /* a byte that no field can hold, or a short buffer */
+            switch (below(3)) {
+            case 0: t.state[CHILDBUS_STATE_ADDRESS_KIND] = (uint8_t)(2 + below(254)); break;
+            case 1: t.state[CHILDBUS_STATE_RUNNING] = (uint8_t)(2 + below(254)); break;
+            default: t.state_len = below(CHILDBUS_STATE_BYTES); break;
+            }
+        bool bad_state = t.state_len < CHILDBUS_STATE_BYTES || t.state[CHILDBUS_STATE_ADDRESS_KIND] > 1 ||
+                         t.state[CHILDBUS_STATE_RUNNING] > 1;
+        memcpy(t.before, t.state, sizeof t.state);
+
+        /* the plain C has no byte buffers: a state that has no struct is one with a next that is out of range */
+        struct plain_state bad;
+        plain_fresh(&bad);
+        bad.next = 4294967295u;
+        struct plain_state *s = bad_state ? &bad : &t.plain_state;
+        uint32_t address = one_in(12) ? below(140) : t.plain_state.has_address ? t.plain_state.address : 8 + below(8);
+        if (one_in(12))
+            address = 0;
+        size_t made = 77, plain_made = 0;
+        uint32_t number, plain_number = 2; /* a profile buffer that is too short has no struct either */
+        bool whole = t.profile_len == CHILDBUS_PROFILE_BYTES;
+        if (one_in(4)) {
+            number = childbus_read(t.profile, t.profile_len, t.state, t.state_len, address, t.flash, t.flash_len,
+                                   t.out, t.out_len, &made);
+            if (whole)
+                plain_number = plain_read(&t.plain_profile, s, address, t.flash_len, t.plain_out, t.out_len, &plain_made);
+        } else {
+            random_frame();
+            number = childbus_receive(t.profile, t.profile_len, t.state, t.state_len, address, t.bytes, t.len, t.flash,
+                                      t.flash_len, t.out, t.out_len, &made);
+            if (whole)
+                plain_number = plain_receive(&t.plain_profile, s, address, t.bytes, t.len, t.plain_flash, t.flash_len,
+                                             t.plain_out, t.out_len, &plain_made);
+        }
+        if (number != plain_number || made != plain_made || memcmp(t.out, t.plain_out, sizeof t.out) != 0 ||
+            memcmp(t.flash, t.plain_flash, SMALL_FLASH) != 0)
+            return differ("board call", turn);
+        if (number > 1 ? memcmp(t.before, t.state, sizeof t.state) != 0
+                       : !same_state(t.state, &t.plain_state) || memcmp(t.before + 340, t.state + 340, 4) != 0)
+            return differ("state", turn);
+    }
+    return true;
+}
+
+static bool master_turn(size_t turn)
+{
+    uint32_t bus = one_in(20) ? any() : below(2);
+    uint32_t longest = one_in(20) ? below(300) : 32 + below(225);
+    uint32_t code = one_in(20) ? any() : below(16);
+    uint32_t destination = one_in(8) ? any() % 600 : 1 + below(140);
+    uint32_t a = one_in(2) ? below(300) : one_in(8) ? any() : below(65540);
+    uint32_t b = one_in(8) ? any() : below(300);
+    size_t len = one_in(2) ? below(270) : below(40);
+    size_t made = 77, plain_made = 77;
+    for (size_t i = 0; i < sizeof t.bytes; i++)
+        t.bytes[i] = (uint8_t)any();
+    t.out_len = one_in(4) ? below(270) : sizeof t.out;
+    memset(t.out, 0xa5, sizeof t.out);
+    memset(t.plain_out, 0xa5, sizeof t.plain_out);
+    uint32_t number, plain_number;
+    if (one_in(10)) {
+        uint32_t reset = one_in(2) ? 0 : any();
+        t.out_len = below(6);
+        number = childbus_general(bus, longest, reset, t.out, t.out_len, &made);
+        plain_number = plain_general(bus, longest, reset, t.plain_out, t.out_len, &plain_made);
+    } else {
+        number = childbus_encode(bus, longest, code, destination, a, b, t.bytes, len, t.out, t.out_len, &made);
+        plain_number = plain_encode(bus, longest, code, destination, a, b, t.bytes, len, t.plain_out, t.out_len,
+                                    &plain_made);
+    }
+    if (number != plain_number || made != plain_made || memcmp(t.out, t.plain_out, sizeof t.out) != 0)
+        return differ("request", turn);
+
+    /* a reply: nearly right */
+    bus = below(2);
+    size_t header = bus == PLAIN_I2C ? 0 : 1;
+    size_t results = one_in(2) ? below(8) : below(256);
+    uint8_t *r = t.bytes;
+    r[0] = (uint8_t)(8 + below(2));
+    r[header] = (uint8_t)(one_in(2) ? 0 : below(8));
+    r[header + 1] = (uint8_t)results;
+    size_t at = header + 2 + results;
+    if (bus == PLAIN_I2C) {
+        r[at] = plain_crc8(r, at);
+        at += 1 + (one_in(4) ? below(10) : 0);
+    } else {
+        uint16_t crc = plain_crc16(r, at);
+        r[at] = (uint8_t)crc;
+        r[at + 1] = (uint8_t)(crc >> 8);
+        at += 2;
+    }
+    if (one_in(6))
+        r[below((uint32_t)at)] ^= (uint8_t)(1u << below(8));
+    if (one_in(8))
+        at = below((uint32_t)at + 2);
+    if (one_in(30))
+        bus = any();
+    uint32_t status = 77, plain_status = 77;
+    size_t start = 77, plain_start = 77;
+    number = childbus_decode(bus, code, r[0], b, r, at, &status, &start, &made);
+    plain_number = plain_decode(bus, code, r[0], b, r, at, &plain_status, &plain_start, &plain_made);
+    if (number != plain_number || status != plain_status || start != plain_start || made != plain_made)
+        return differ("reply", turn);
+    number = childbus_decode(bus, code, 8, b, r, at, &status, &start, &made);
+    plain_number = plain_decode(bus, code, 8, b, r, at, &plain_status, &plain_start, &plain_made);
+    if (number != plain_number || status != plain_status || start != plain_start || made != plain_made)
+        return differ("reply", turn);
+
+    memcpy(t.out, r, least(at, sizeof t.out));
+    if (at > 0 && one_in(2))
+        r[below((uint32_t)at)] ^= 1;
+    number = childbus_two_reads(code, b, r, at, t.out, least(at, sizeof t.out), &start, &made);
+    plain_number = plain_two_reads(code, b, r, at, t.out, least(at, sizeof t.out), &plain_start, &plain_made);
+    if (number != plain_number || made != plain_made || (number != 0 && start != plain_start))
+        return differ("reply read twice", turn);
+
+    uint32_t major = 77, minor = 77, plain_major = 77, plain_minor = 77;
+    uint32_t given = one_in(10) ? any() : below(4), given_minor = one_in(10) ? any() : below(5);
+    number = childbus_version(given, given_minor, &major, &minor);
+    plain_number = plain_version(given, given_minor, &plain_major, &plain_minor);
+    if (number != plain_number || major != plain_major || minor != plain_minor)
+        return differ("version", turn);
+    return true;
+}
+
+bool agree(void)
+{
+    enum { TURNS = 50000 };
+    for (size_t i = 0; i < job_count; i++)
+        if (!job_agrees(&job_list[i]))
+            return false;
+    for (size_t turn = 0; turn < TURNS; turn++)
+        if (!board_turn(turn) || !master_turn(turn))
+            return false;
+    printf("Both sides agree on the inputs of all %zu jobs (after every call: number, output, state, flash) and on "
+           "%d random calls, refused ones among them.\n",
+           job_count, TURNS * 17);
+    return true;
+}

@@ -1,0 +1,351 @@
+/* The jobs: their inputs, and the loops that are measured. Both sides have the same loops. */
+#include "jobs.h"
+
+#include <stdio.h>
+#include <stdlib.h>
+#include <string.h>
+
+#include "childbus.h"
+
+#define GROWTH(bus, frame)                                                                                    \
+    {UPLOAD_FIRST, bus, frame, 1024}, {UPLOAD_FIRST, bus, frame, 2048}, {UPLOAD_FIRST, bus, frame, 4096},     \
+        {UPLOAD_FIRST, bus, frame, 8192}, {UPLOAD_FIRST, bus, frame, 16384}, {UPLOAD_FIRST, bus, frame, 32768}
+
+#define EACH_FRAME(bus, frame)                                                                                \
+    {UPLOAD_FIRST, bus, frame, FLASH}, {UPLOAD_REPEATED, bus, frame, FLASH}, {READ_BACK, bus, frame, FLASH},  \
+        {ENCODE_WRITE, bus, frame, FLASH}, {DECODE_FULL, bus, frame, 500}
+
+const struct job job_list[] = {
+    EACH_FRAME(PLAIN_I2C, 32),
+    EACH_FRAME(PLAIN_I2C, 256),
+    EACH_FRAME(PLAIN_RS485, 32),
+    EACH_FRAME(PLAIN_RS485, 256),
+    {READ_REPLY, PLAIN_I2C, 32, 2000},
+    {READ_REPLY, PLAIN_I2C, 256, 2000},
+    {ENCODE_SHORT, PLAIN_I2C, 256, 2000},
+    {ENCODE_SHORT, PLAIN_RS485, 256, 2000},
+    {DECODE_SHORT, PLAIN_I2C, 256, 2000},
+    {DECODE_SHORT, PLAIN_RS485, 256, 2000},
+    {TWO_READS, PLAIN_I2C, 256, 500},
+    GROWTH(PLAIN_I2C, 32),
+    GROWTH(PLAIN_I2C, 256),
+    GROWTH(PLAIN_RS485, 32),
+    GROWTH(PLAIN_RS485, 256),
+};
+const size_t job_count = sizeof job_list / sizeof job_list[0];
+
+struct boards boards;
+struct input inputs[3000];
+size_t input_count;
+uint8_t pool[140000];
+
+static size_t pool_len;
+static uint8_t image[FLASH];
+static volatile size_t sink;
+
+const char *kind_name(enum kind kind)
+{
+    static const char *const names[] = {"upload-first", "upload-repeated", "read-back",    "read-reply", "encode-write",
+                                        "encode-short", "decode-full",     "decode-short", "two-reads"};
+    return names[kind];
+}
+
+static void must(bool good)
+{
+    if (!good) {
+        fprintf(stderr, "bench: the inputs can't be made\n");
+        exit(1);
+    }
+}
+
+/* Adds a request as a frame for the board. */
+static void add_frame(const struct job *job, uint32_t code, uint32_t a, uint32_t b, const uint8_t *data, size_t len)
+{
+    struct input *in = &inputs[input_count++];
+    *in = (struct input){code, a, b, pool_len, 0};
+    must(input_count <= sizeof inputs / sizeof inputs[0] && pool_len + job->frame <= sizeof pool);
+    must(plain_encode(job->bus, job->frame, code, ADDRESS, a, b, data, len, pool + pool_len, job->frame, &in->len) == 0);
+    pool_len += in->len;
+}
+
+/* Adds arguments for the encoder, and data. */
+static void add_request(uint32_t code, uint32_t a, uint32_t b, const uint8_t *data, size_t len)
+{
+    inputs[input_count++] = (struct input){code, a, b, pool_len, len};
+    must(input_count <= sizeof inputs / sizeof inputs[0] && pool_len + len <= sizeof pool);
+    memcpy(pool + pool_len, data, len);
+    pool_len += len;
+}
+
+/* Adds a reply for the decoder: what a plain board answers to the request. The length asked is in b. */
+static void add_reply(const struct job *job, uint32_t code, uint32_t a, uint32_t b)
+{
+    uint8_t frame[256];
+    size_t len;
+    struct input *in = &inputs[input_count++];
+    *in = (struct input){code, a, b, pool_len, 0};
+    must(input_count <= sizeof inputs / sizeof inputs[0] && pool_len + 256 <= sizeof pool);
+    must(plain_encode(job->bus, job->frame, code, ADDRESS, a, b, image, 0, frame, sizeof frame, &len) == 0);
+    must(plain_receive(&boards.plain_profile, &boards.plain_state, ADDRESS, frame, len, boards.flash[PLAIN], FLASH,
+                       pool + pool_len, 256, &in->len) == 0);
+    pool_len += in->len;
+}
+
+static void put32(uint8_t *out, uint32_t value)
+{
+    for (int i = 0; i < 4; i++)
+        out[i] = (uint8_t)(value >> 8 * i);
+}
+
+static void make_profiles(const struct job *job)
+{
+    static const uint8_t serial[4] = {0x51, 0x52, 0x53, 0x54};
+    struct plain_profile *p = &boards.plain_profile;
+    *p = (struct plain_profile){.bus = (uint8_t)job->bus, .hardware = 7, .compatible = 1, .actual = 2, .bootloader = 3,
+                                .serial_len = sizeof serial, .longest = job->frame, .size = FLASH, .offset = 0};
+    memcpy(p->serial, serial, sizeof serial);
+
+    memset(boards.profile, 0, sizeof boards.profile);
+    boards.profile[CHILDBUS_PROFILE_BUS] = p->bus;
+    boards.profile[CHILDBUS_PROFILE_HARDWARE] = p->hardware;
+    boards.profile[CHILDBUS_PROFILE_COMPATIBLE] = p->compatible;
+    boards.profile[CHILDBUS_PROFILE_ACTUAL] = p->actual;
+    boards.profile[CHILDBUS_PROFILE_BOOTLOADER] = p->bootloader;
+    boards.profile[CHILDBUS_PROFILE_SERIAL_LENGTH] = p->serial_len;
+    put32(boards.profile + CHILDBUS_PROFILE_LONGEST, p->longest);
+    put32(boards.profile + CHILDBUS_PROFILE_SIZE, p->size);
+    put32(boards.profile + CHILDBUS_PROFILE_OFFSET, p->offset);
+    memcpy(boards.profile + CHILDBUS_PROFILE_SERIAL, serial, sizeof serial);
+}
+
+void make_inputs(const struct job *job)
+{
+    static const uint8_t short_codes[] = {0x00, 0x01, 0x03, 0x04, 0x07, 0x08, 0x09, 0x0c};
+    uint32_t data_max = job->frame - (job->bus == PLAIN_I2C ? 4 : 6);
+    uint32_t read_max = job->frame - (job->bus == PLAIN_I2C ? 3 : 5);
+    uint32_t seed = 1;
+
+    input_count = 0;
+    pool_len = 0;
+    for (size_t i = 0; i < FLASH; i++) {
+        seed = seed * 1664525 + 1013904223;
+        image[i] = (uint8_t)(seed >> 24);
+    }
+    make_profiles(job);
+    plain_fresh(&boards.plain_state);
+    memcpy(boards.flash[PLAIN], image, FLASH);
+
+    switch (job->kind) {
+    case UPLOAD_FIRST:
+    case UPLOAD_REPEATED:
+    case ENCODE_WRITE:
+        for (uint32_t at = 0; at < job->amount; at += data_max) {
+            uint32_t n = job->amount - at < data_max ? job->amount - at : data_max;
+            if (job->kind == ENCODE_WRITE)
+                add_request(0x06, at, 0, image + at, n);
+            else
+                add_frame(job, 0x06, at, 0, image + at, n);
+        }
+        if (job->kind != ENCODE_WRITE)
+            add_frame(job, 0x07, 0, 0, image, 0);
+        break;
+    case READ_BACK:
+        for (uint32_t at = 0; at < job->amount; at += read_max)
+            add_frame(job, 0x08, at, job->amount - at < read_max ? job->amount - at : read_max, image, 0);
+        break;
+    case READ_REPLY:
+        add_frame(job, 0x08, 0, read_max, image, 0);
+        break;
+    case ENCODE_SHORT:
+        for (uint32_t i = 0; i < job->amount; i++)
+            add_request(short_codes[i % sizeof short_codes], 9, 7, image, 0);
+        break;
+    case DECODE_FULL:
+        for (uint32_t i = 0; i < job->amount; i++)
+            add_reply(job, 0x08, i, read_max);
+        break;
+    case DECODE_SHORT:
+        for (uint32_t i = 0; i < job->amount; i++) {
+            plain_fresh(&boards.plain_state);
+            add_reply(job, short_codes[i % sizeof short_codes], 9, 7);
+        }
+        break;
+    case TWO_READS:
+        /* one right reply, then its damaged twin */
+        add_reply(job, 0x08, 0, read_max);
+        inputs[input_count] = inputs[0];
+        inputs[input_count].at = pool_len;
+        memcpy(pool + pool_len, pool, inputs[0].len);
+        pool[pool_len + inputs[0].len / 2] ^= 0x10;
+        pool_len += inputs[0].len;
+        input_count++;
+        break;
+    }
+}
+
+/* The loops. Each call's answer goes into a sum, so that none can be left out. */
+
+static size_t board_library(const struct job *job)
+{
+    size_t sum = 0;
+    for (size_t i = 0; i < input_count; i++) {
+        size_t made;
+        sum += childbus_receive(boards.profile, sizeof boards.profile, boards.state, sizeof boards.state, ADDRESS,
+                                pool + inputs[i].at, inputs[i].len, boards.flash[LIBRARY], FLASH, boards.out[LIBRARY],
+                                job->frame, &made);
+        sum += made;
+    }
+    return sum;
+}
+
+static size_t board_plain(const struct job *job)
+{
+    size_t sum = 0;
+    for (size_t i = 0; i < input_count; i++) {
+        size_t made;
+        sum += plain_receive(&boards.plain_profile, &boards.plain_state, ADDRESS, pool + inputs[i].at, inputs[i].len,
+                             boards.flash[PLAIN], FLASH, boards.out[PLAIN], job->frame, &made);
+        sum += made;
+    }
+    return sum;
+}
+
+static size_t read_library(const struct job *job)
+{
+    size_t sum = 0;
+    for (uint32_t i = 0; i < job->amount; i++) {
+        size_t made;
+        sum += childbus_read(boards.profile, sizeof boards.profile, boards.state, sizeof boards.state, ADDRESS,
+                             boards.flash[LIBRARY], FLASH, boards.out[LIBRARY], job->frame, &made);
+        sum += made;
+    }
+    return sum;
+}
+
+static size_t read_plain(const struct job *job)
+{
+    size_t sum = 0;
+    for (uint32_t i = 0; i < job->amount; i++) {
+        size_t made;
+        sum += plain_read(&boards.plain_profile, &boards.plain_state, ADDRESS, FLASH, boards.out[PLAIN], job->frame,
+                          &made);
+        sum += made;
+    }
+    return sum;
+}
+
+static size_t encode_library(const struct job *job)
+{
+    size_t sum = 0;
+    for (size_t i = 0; i < input_count; i++) {
+        size_t made;
+        sum += childbus_encode(job->bus, job->frame, inputs[i].code, ADDRESS, inputs[i].a, inputs[i].b,
+                               pool + inputs[i].at, inputs[i].len, boards.out[LIBRARY], job->frame, &made);
+        sum += made;
+    }
+    return sum;
+}
+
+static size_t encode_plain(const struct job *job)
+{
+    size_t sum = 0;
+    for (size_t i = 0; i < input_count; i++) {
+        size_t made;
+        sum += plain_encode(job->bus, job->frame, inputs[i].code, ADDRESS, inputs[i].a, inputs[i].b,
+                            pool + inputs[i].at, inputs[i].len, boards.out[PLAIN], job->frame, &made);
+        sum += made;
+    }
+    return sum;
+}
+
+static size_t decode_library(const struct job *job)
+{
+    size_t sum = 0;
+    for (size_t i = 0; i < input_count; i++) {
+        uint32_t status;
+        size_t start, len;
+        sum += childbus_decode(job->bus, inputs[i].code, ADDRESS, inputs[i].b, pool + inputs[i].at, inputs[i].len,
+                               &status, &start, &len);
+        sum += status + start + len;
+    }
+    return sum;
+}
+
+static size_t decode_plain(const struct job *job)
+{
+    size_t sum = 0;
+    for (size_t i = 0; i < input_count; i++) {
+        uint32_t status;
+        size_t start, len;
+        sum += plain_decode(job->bus, inputs[i].code, ADDRESS, inputs[i].b, pool + inputs[i].at, inputs[i].len,
+                            &status, &start, &len);
+        sum += status + start + len;
+    }
+    return sum;
+}
+
+static size_t two_library(const struct job *job)
+{
+    size_t sum = 0;
+    for (uint32_t i = 0; i < job->amount; i++) {
+        size_t start, len;
+        sum += childbus_two_reads(inputs[0].code, inputs[0].b, pool + inputs[1].at, inputs[1].len, pool + inputs[0].at,
+                                  inputs[0].len, &start, &len);
+        sum += start + len;
+    }
+    return sum;
+}
+
+static size_t two_plain(const struct job *job)
+{
+    size_t sum = 0;
+    for (uint32_t i = 0; i < job->amount; i++) {
+        size_t start, len;
+        sum += plain_two_reads(inputs[0].code, inputs[0].b, pool + inputs[1].at, inputs[1].len, pool + inputs[0].at,
+                               inputs[0].len, &start, &len);
+        sum += start + len;
+    }
+    return sum;
+}
+
+void run_job(const struct job *job, enum side side)
+{
+    switch (job->kind) {
+    case UPLOAD_FIRST:
+    case UPLOAD_REPEATED:
+    case READ_BACK:
+        sink = side == LIBRARY ? board_library(job) : board_plain(job);
+        break;
+    case READ_REPLY:
+        sink = side == LIBRARY ? read_library(job) : read_plain(job);
+        break;
+    case ENCODE_WRITE:
+    case ENCODE_SHORT:
+        sink = side == LIBRARY ? encode_library(job) : encode_plain(job);
+        break;
+    case DECODE_FULL:
+    case DECODE_SHORT:
+        sink = side == LIBRARY ? decode_library(job) : decode_plain(job);
+        break;
+    case TWO_READS:
+        sink = side == LIBRARY ? two_library(job) : two_plain(job);
+        break;
+    }
+}
+
+void set_up(const struct job *job, enum side side)
+{
+    memset(boards.out[side], 0xa5, sizeof boards.out[side]);
+    if (side == LIBRARY)
+        must(childbus_fresh(boards.state, sizeof boards.state) == 0);
+    else
+        plain_fresh(&boards.plain_state);
+    if (job->kind == READ_BACK || job->kind == READ_REPLY)
+        memcpy(boards.flash[side], image, FLASH);
+    else
+        memset(boards.flash[side], 0xff, FLASH);
+
+    /* a repeated upload has the upload behind it, a kept reply its request */
+    if (job->kind == UPLOAD_REPEATED || job->kind == READ_REPLY)
+        sink = side == LIBRARY ? board_library(job) : board_plain(job);
+}

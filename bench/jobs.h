@@ -1,0 +1,68 @@
+/* What is measured: a job is a list of calls with prepared inputs, run through the library or through the plain C. */
+#ifndef JOBS_H
+#define JOBS_H
+
+#include "plain.h"
+
+enum side { LIBRARY, PLAIN, SIDES };
+
+enum kind {
+    UPLOAD_FIRST,    /* the board receives the writes and a finalize; flash all 0xFF before */
+    UPLOAD_REPEATED, /* the same upload once more: no page changes */
+    READ_BACK,       /* the board receives the reads of what was uploaded */
+    READ_REPLY,      /* I2C reads of a kept reply of `frame` bytes */
+    ENCODE_WRITE,    /* the master makes the writes of an upload */
+    ENCODE_SHORT,    /* the master makes one of each other request, over and over */
+    DECODE_FULL,     /* the master takes apart read replies of `frame` bytes */
+    DECODE_SHORT,    /* the master takes apart the replies to the short requests */
+    TWO_READS        /* the master gets a damaged and then a right read of a reply of `frame` bytes */
+};
+
+struct job {
+    enum kind kind;
+    uint32_t bus;
+    uint32_t frame;  /* M */
+    uint32_t amount; /* bytes (uploads, read back, ENCODE_WRITE), else calls */
+};
+
+/* One prepared call. The bytes are a frame, the data of a write, or a reply. */
+struct input {
+    uint32_t code, a, b;
+    size_t at, len; /* the bytes in the pool */
+};
+
+/* A board of each side, and what the calls of one side leave. */
+struct boards {
+    uint8_t profile[36];
+    uint8_t state[340];
+    struct plain_profile plain_profile;
+    struct plain_state plain_state;
+    uint8_t flash[SIDES][65472];
+    uint8_t out[SIDES][256];
+};
+
+enum { ADDRESS = 8, FLASH = 65472 };
+
+extern struct boards boards;
+extern struct input inputs[];
+extern size_t input_count;
+extern uint8_t pool[];
+
+extern const struct job job_list[];
+extern const size_t job_count;
+
+const char *kind_name(enum kind kind);
+
+/* Makes the inputs of a job, by the plain C. */
+void make_inputs(const struct job *job);
+
+/* Puts a side's board and buffers where the job begins: not measured. */
+void set_up(const struct job *job, enum side side);
+
+/* Runs a job's calls once. */
+void run_job(const struct job *job, enum side side);
+
+/* Compares both sides on every job's inputs, then on random ones. False, after a message, if they differ. */
+bool agree(void);
+
+#endif

@@ -1,0 +1,462 @@
+/* A board and a master in plain C; see plain.h. */
+#include "plain.h"
+
+#include <string.h>
+
+enum { OK = 0, NOT_SUPPORTED = 2, INVALID_TRANSFER = 3, INVALID_CRC = 4, INVALID_ARGUMENTS = 5 };
+
+enum {
+    VERSION = 0x00,
+    SET_ADDRESS = 0x01,
+    HARDWARE_INFO = 0x03,
+    SERIAL = 0x04,
+    START = 0x05,
+    WRITE = 0x06,
+    FINALIZE = 0x07,
+    READ = 0x08,
+    REVISION = 0x09,
+    LONGEST = 0x0c,
+    COMMANDS = 0x0f
+};
+
+/* One row per code: served, shortest and longest argument count. */
+static const struct {
+    uint8_t served, shortest, longest;
+} rows[COMMANDS] = {
+    [VERSION] = {1, 0, 0}, [SET_ADDRESS] = {1, 2, 2}, [HARDWARE_INFO] = {1, 0, 0}, [SERIAL] = {1, 0, 0},
+    [START] = {1, 0, 0},   [WRITE] = {1, 2, 254},     [FINALIZE] = {1, 0, 0},      [READ] = {1, 3, 3},
+    [REVISION] = {1, 0, 0}, [LONGEST] = {1, 0, 0},
+};
+
+static bool served(uint32_t code)
+{
+    return code < COMMANDS && rows[code].served;
+}
+
+uint8_t plain_crc8(const uint8_t *bytes, size_t len)
+{
+    uint32_t crc = 0xff;
+    for (size_t i = 0; i < len; i++) {
+        crc ^= bytes[i];
+#pragma GCC unroll 8
+        for (int bit = 0; bit < 8; bit++)
+            crc = crc & 0x80 ? (crc << 1) ^ 0x07 : crc << 1;
+    }
+    return (uint8_t)crc;
+}
+
+uint16_t plain_crc16(const uint8_t *bytes, size_t len)
+{
+    uint32_t crc = 0xffff;
+    for (size_t i = 0; i < len; i++) {
+        crc ^= bytes[i];
+#pragma GCC unroll 8
+        for (int bit = 0; bit < 8; bit++)
+            crc = crc & 1 ? (crc >> 1) ^ 0xa001 : crc >> 1;
+    }
+    return (uint16_t)crc;
+}
+
+/* Appends the check sum of the first len bytes and gives the whole length. */
+static size_t seal(uint32_t bus, uint8_t *frame, size_t len)
+{
+    if (bus == PLAIN_I2C) {
+        frame[len] = plain_crc8(frame, len);
+        return len + 1;
+    }
+    uint16_t crc = plain_crc16(frame, len);
+    frame[len] = (uint8_t)crc;
+    frame[len + 1] = (uint8_t)(crc >> 8);
+    return len + 2;
+}
+
+/* Whether the check sum follows the first len bytes. */
+static bool sealed(uint32_t bus, const uint8_t *frame, size_t len)
+{
+    if (bus == PLAIN_I2C)
+        return plain_crc8(frame, len) == frame[len];
+    return plain_crc16(frame, len) == (frame[len] | frame[len + 1] << 8);
+}
+
+static size_t put16(uint8_t *out, uint32_t value)
+{
+    out[0] = (uint8_t)(value >> 8);
+    out[1] = (uint8_t)value;
+    return 2;
+}
+
+static uint32_t get16(const uint8_t *bytes)
+{
+    return (uint32_t)bytes[0] << 8 | bytes[1];
+}
+
+/* The board. */
+
+void plain_fresh(struct plain_state *s)
+{
+    memset(s, 0, sizeof *s);
+}
+
+/* Numbers 2, 3, 4, 5 in this order; 0 if none. */
+static uint32_t refused(const struct plain_profile *p, const struct plain_state *s, size_t flash_len, size_t out_len)
+{
+    if (p->bus > PLAIN_RS485 || p->longest < PLAIN_FRAME_MIN || p->longest > PLAIN_FRAME_MAX || p->size % PLAIN_PAGE ||
+        p->size < PLAIN_PAGE || p->size > PLAIN_FLASH_MAX || p->offset % PLAIN_PAGE || p->offset > PLAIN_FLASH_MAX ||
+        p->hardware == 0 || p->serial_len > PLAIN_SERIAL_MAX)
+        return 2;
+    if (flash_len < (size_t)p->offset + p->size)
+        return 3;
+    if (s->next > p->size || s->w > s->next % PLAIN_PAGE || s->count > s->next - s->w || s->reply_len > p->longest ||
+        (p->bus == PLAIN_RS485 && s->reply_len))
+        return 4;
+    if (out_len < p->longest)
+        return 5;
+    return 0;
+}
+
+/* A command to address comes to this board; the general call is no command. */
+static bool hears(const struct plain_profile *p, const struct plain_state *s, uint32_t address)
+{
+    if (address == 0 || (p->bus == PLAIN_I2C && address > 127))
+        return false;
+    return s->has_address ? address == s->address : address >= 8 && address <= 15;
+}
+
+/* Lays the waiting bytes over their page; an unchanged page is not erased. */
+static void commit(const struct plain_profile *p, struct plain_state *s, uint8_t *flash)
+{
+    uint8_t *place = flash + p->offset + s->next - s->w;
+    if (memcmp(place, s->waiting, s->w) != 0) {
+        memcpy(place, s->waiting, s->w);
+        s->count++;
+    }
+    s->w = 0;
+}
+
+static uint8_t write_flash(const struct plain_profile *p, struct plain_state *s, const uint8_t *args, size_t args_len,
+                           uint8_t *flash)
+{
+    uint32_t address = get16(args);
+    const uint8_t *data = args + 2;
+    size_t left = args_len - 2;
+    if ((address != 0 && address != s->next) || address + left > p->size)
+        return INVALID_ARGUMENTS;
+    if (address == 0) {
+        s->next = 0;
+        s->w = 0;
+        s->count = 0;
+    }
+    while (left > 0) {
+        size_t room = PLAIN_PAGE - s->next % PLAIN_PAGE;
+        size_t n = left < room ? left : room;
+        memcpy(s->waiting + s->w, data, n);
+        s->w += (uint32_t)n;
+        s->next += (uint32_t)n;
+        data += n;
+        left -= n;
+        if (n == room)
+            commit(p, s, flash);
+    }
+    return OK;
+}
+
+/* One command. Results go to results, their number to *results_len. False: no reply. */
+static bool obey(const struct plain_profile *p, struct plain_state *s, uint8_t code, const uint8_t *args,
+                 size_t args_len, uint8_t *flash, uint8_t *status, uint8_t *results, size_t *results_len)
+{
+    *status = OK;
+    *results_len = 0;
+    if (!served(code)) {
+        *status = NOT_SUPPORTED;
+        return true;
+    }
+    if (args_len < rows[code].shortest || args_len > rows[code].longest) {
+        *status = INVALID_ARGUMENTS;
+        return true;
+    }
+    switch (code) {
+    case VERSION:
+        results[0] = 2;
+        results[1] = 2;
+        *results_len = 2;
+        return true;
+    case SET_ADDRESS:
+        if (args[1] != 0 && args[1] != p->hardware)
+            return false;
+        s->has_address = true;
+        s->address = p->bus == PLAIN_I2C ? args[0] & 0x7f : args[0];
+        return true;
+    case HARDWARE_INFO:
+        results[0] = p->hardware;
+        results[1] = p->compatible;
+        results[2] = p->bootloader;
+        *results_len = 3 + put16(results + 3, p->size);
+        return true;
+    case SERIAL:
+        if (p->serial_len == 0) {
+            *status = NOT_SUPPORTED;
+            return true;
+        }
+        memcpy(results, p->serial, p->serial_len);
+        *results_len = p->serial_len;
+        return true;
+    case START:
+        s->running = true;
+        s->w = 0;
+        return false;
+    case WRITE:
+        *status = write_flash(p, s, args, args_len, flash);
+        return true;
+    case FINALIZE:
+        if (s->w > 0)
+            commit(p, s, flash);
+        *results_len = put16(results, s->count);
+        return true;
+    case READ: {
+        uint32_t address = get16(args);
+        uint32_t len = args[2];
+        uint32_t frame = p->bus == PLAIN_I2C ? 3 : 5;
+        if (address + len > p->size || len > p->longest - frame) {
+            *status = INVALID_ARGUMENTS;
+            return true;
+        }
+        memcpy(results, flash + p->offset + address, len);
+        *results_len = len;
+        return true;
+    }
+    case REVISION:
+        results[0] = p->actual;
+        *results_len = 1;
+        return true;
+    default: /* LONGEST */
+        *results_len = put16(results, p->longest);
+        return true;
+    }
+}
+
+/* Closes a reply whose results are in place; I2C keeps it. */
+static uint32_t send(const struct plain_profile *p, struct plain_state *s, uint8_t address, uint8_t status,
+                     size_t results_len, uint8_t *out, size_t *made)
+{
+    size_t at = 0;
+    if (p->bus == PLAIN_RS485)
+        out[at++] = address;
+    out[at++] = status;
+    out[at++] = (uint8_t)results_len;
+    *made = seal(p->bus, out, at + results_len);
+    if (p->bus == PLAIN_I2C) {
+        memcpy(s->reply, out, *made);
+        s->reply_len = (uint32_t)*made;
+    }
+    return 0;
+}
+
+uint32_t plain_receive(const struct plain_profile *p, struct plain_state *s, uint32_t address, const uint8_t *frame,
+                       size_t frame_len, uint8_t *flash, size_t flash_len, uint8_t *out, size_t out_len, size_t *made)
+{
+    *made = 0;
+    uint32_t number = refused(p, s, flash_len, out_len);
+    if (number != 0)
+        return number;
+
+    bool i2c = p->bus == PLAIN_I2C;
+    uint8_t general = 0; /* the general call's code, if it has the exact form */
+    if (i2c) {
+        if (address == 0 && frame_len == 1)
+            general = frame[0] == 0x04 || frame[0] == 0x06 ? frame[0] : 0;
+    } else if (frame_len == 4 && frame[0] == 0 && (frame[1] == 0x44 || frame[1] == 0x46) && sealed(PLAIN_RS485, frame, 2)) {
+        general = frame[1] & 0x0f;
+    }
+    if (general == 0x06) {
+        plain_fresh(s);
+        return 1;
+    }
+    if (s->running)
+        return 1;
+    if (general == 0x04) {
+        s->has_address = false;
+        s->reply_len = 0;
+        return 1;
+    }
+
+    const uint8_t *body = frame;
+    size_t body_len = frame_len; /* command and arguments */
+    if (i2c) {
+        if (!hears(p, s, address))
+            return 1;
+        if (frame_len < 2 || frame_len > p->longest)
+            return send(p, s, 0, INVALID_TRANSFER, 0, out, made);
+        if (!sealed(PLAIN_I2C, frame, frame_len - 1))
+            return send(p, s, 0, INVALID_CRC, 0, out, made);
+        body_len -= 1;
+    } else {
+        if (frame_len < 4 || frame_len > p->longest || !hears(p, s, frame[0]) ||
+            !sealed(PLAIN_RS485, frame, frame_len - 2))
+            return 1;
+        address = frame[0];
+        body += 1;
+        body_len -= 3;
+    }
+
+    uint8_t status;
+    size_t results_len;
+    uint8_t *results = out + (i2c ? 2 : 3);
+    if (!obey(p, s, body[0], body + 1, body_len - 1, flash, &status, results, &results_len)) {
+        s->reply_len = 0;
+        return 1;
+    }
+    return send(p, s, (uint8_t)address, status, results_len, out, made);
+}
+
+uint32_t plain_read(const struct plain_profile *p, const struct plain_state *s, uint32_t address, size_t flash_len,
+                    uint8_t *out, size_t out_len, size_t *made)
+{
+    *made = 0;
+    uint32_t number = refused(p, s, flash_len, out_len);
+    if (number != 0)
+        return number;
+    if (p->bus != PLAIN_I2C || s->running || s->reply_len == 0 || !hears(p, s, address))
+        return 1;
+    memcpy(out, s->reply, s->reply_len);
+    *made = s->reply_len;
+    return 0;
+}
+
+/* The master. */
+
+static bool frame_refused(uint32_t bus, uint32_t longest)
+{
+    return bus > PLAIN_RS485 || longest < PLAIN_FRAME_MIN || longest > PLAIN_FRAME_MAX;
+}
+
+uint32_t plain_encode(uint32_t bus, uint32_t longest, uint32_t code, uint32_t destination, uint32_t a, uint32_t b,
+                      const uint8_t *data, size_t data_len, uint8_t *out, size_t out_len, size_t *made)
+{
+    *made = 0;
+    if (frame_refused(bus, longest))
+        return 2;
+    uint32_t last_address = bus == PLAIN_I2C ? 127 : 255;
+    if (!served(code) || destination == 0 || destination > last_address)
+        return 7;
+
+    size_t args_len = rows[code].shortest;
+    if (code == SET_ADDRESS) {
+        if (a > last_address || b > 255)
+            return 7;
+    } else if (code == WRITE) {
+        if (a > 65535 || data_len > longest - (bus == PLAIN_I2C ? 4 : 6))
+            return 7;
+        args_len += data_len;
+    } else if (code == READ) {
+        if (a > 65535 || b > longest - (bus == PLAIN_I2C ? 3 : 5))
+            return 7;
+    }
+    if (args_len + (bus == PLAIN_I2C ? 2 : 4) > out_len)
+        return 6;
+
+    size_t at = 0;
+    if (bus == PLAIN_RS485)
+        out[at++] = (uint8_t)destination;
+    out[at++] = (uint8_t)code;
+    if (code == SET_ADDRESS) {
+        out[at++] = (uint8_t)a;
+        out[at++] = (uint8_t)b;
+    } else if (code == WRITE) {
+        at += put16(out + at, a);
+        memcpy(out + at, data, data_len);
+        at += data_len;
+    } else if (code == READ) {
+        at += put16(out + at, a);
+        out[at++] = (uint8_t)b;
+    }
+    *made = seal(bus, out, at);
+    return 0;
+}
+
+uint32_t plain_general(uint32_t bus, uint32_t longest, uint32_t reset, uint8_t *out, size_t out_len, size_t *made)
+{
+    *made = 0;
+    if (frame_refused(bus, longest))
+        return 2;
+    if (out_len < (bus == PLAIN_I2C ? 1 : 4))
+        return 6;
+    if (bus == PLAIN_I2C) {
+        out[0] = reset ? 0x06 : 0x04;
+        *made = 1;
+        return 0;
+    }
+    out[0] = 0;
+    out[1] = reset ? 0x46 : 0x44;
+    *made = seal(bus, out, 2);
+    return 0;
+}
+
+/* The results that OK must have. */
+static uint32_t fixed_part(uint32_t code, uint32_t asked)
+{
+    switch (code) {
+    case VERSION:
+    case FINALIZE:
+    case LONGEST:
+        return 2;
+    case HARDWARE_INFO:
+        return 5;
+    case REVISION:
+        return 1;
+    case READ:
+        return asked;
+    default:
+        return 0;
+    }
+}
+
+uint32_t plain_decode(uint32_t bus, uint32_t code, uint32_t address, uint32_t asked, const uint8_t *reply,
+                      size_t reply_len, uint32_t *status, size_t *start, size_t *len)
+{
+    *status = 0;
+    *start = 0;
+    *len = 0;
+    if (bus > PLAIN_RS485 || !served(code))
+        return 7;
+    size_t header = bus == PLAIN_I2C ? 0 : 1;
+    size_t shortest = bus == PLAIN_I2C ? 3 : 5;
+    if (reply_len < shortest)
+        return 8;
+    size_t results = reply[header + 1];
+    if (bus == PLAIN_I2C ? reply_len < results + shortest : reply_len != results + shortest)
+        return 11;
+    if (!sealed(bus, reply, header + 2 + results))
+        return 9;
+    if (bus == PLAIN_RS485 && reply[0] != address)
+        return 10;
+    if (reply[header] > INVALID_ARGUMENTS)
+        return 12;
+    if (reply[header] == OK && results < fixed_part(code, asked))
+        return 13;
+    *status = reply[header];
+    *start = header + 2;
+    *len = results;
+    return 0;
+}
+
+uint32_t plain_two_reads(uint32_t code, uint32_t asked, const uint8_t *first, size_t first_len, const uint8_t *second,
+                         size_t second_len, size_t *start, size_t *len)
+{
+    uint32_t status;
+    if (plain_decode(PLAIN_I2C, code, 0, asked, first, first_len, &status, start, len) == 0)
+        return 1;
+    if (plain_decode(PLAIN_I2C, code, 0, asked, second, second_len, &status, start, len) == 0)
+        return 2;
+    return 0;
+}
+
+uint32_t plain_version(uint32_t major, uint32_t minor, uint32_t *known_major, uint32_t *known_minor)
+{
+    *known_major = 0;
+    *known_minor = 0;
+    if (major != 1 && major != 2)
+        return 14;
+    *known_major = major;
+    *known_minor = minor < major ? minor : major; /* the highest known minor equals the major: 1.1 and 2.2 */
+    return 0;
+}

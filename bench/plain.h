@@ -1,0 +1,65 @@
+/*
+ * A board and a master of the Childbus bootloader protocol in plain C: what the library is measured against.
+ * Same rules and same numbers (0 to 14) as childbus.h; profile and state are structs. Check sums bit by bit.
+ */
+#ifndef PLAIN_H
+#define PLAIN_H
+
+#include <stdbool.h>
+#include <stddef.h>
+#include <stdint.h>
+
+enum plain_bus { PLAIN_I2C = 0, PLAIN_RS485 = 1 };
+
+enum { PLAIN_PAGE = 64, PLAIN_FRAME_MIN = 32, PLAIN_FRAME_MAX = 256, PLAIN_FLASH_MAX = 65472, PLAIN_SERIAL_MAX = 16 };
+
+struct plain_profile {
+    uint8_t bus;
+    uint8_t hardware;
+    uint8_t compatible;
+    uint8_t actual;
+    uint8_t bootloader;
+    uint8_t serial_len;
+    uint32_t longest; /* M */
+    uint32_t size;    /* S */
+    uint32_t offset;  /* O */
+    uint8_t serial[PLAIN_SERIAL_MAX];
+};
+
+struct plain_state {
+    bool has_address; /* false: default range */
+    uint8_t address;
+    bool running;
+    uint32_t next;
+    uint32_t w;
+    uint32_t count;
+    uint32_t reply_len;
+    uint8_t waiting[PLAIN_PAGE];
+    uint8_t reply[PLAIN_FRAME_MAX];
+};
+
+uint8_t plain_crc8(const uint8_t *bytes, size_t len);
+uint16_t plain_crc16(const uint8_t *bytes, size_t len);
+
+void plain_fresh(struct plain_state *s);
+
+uint32_t plain_receive(const struct plain_profile *p, struct plain_state *s, uint32_t address, const uint8_t *frame,
+                       size_t frame_len, uint8_t *flash, size_t flash_len, uint8_t *out, size_t out_len, size_t *made);
+
+uint32_t plain_read(const struct plain_profile *p, const struct plain_state *s, uint32_t address, size_t flash_len,
+                    uint8_t *out, size_t out_len, size_t *made);
+
+uint32_t plain_encode(uint32_t bus, uint32_t longest, uint32_t code, uint32_t destination, uint32_t a, uint32_t b,
+                      const uint8_t *data, size_t data_len, uint8_t *out, size_t out_len, size_t *made);
+
+uint32_t plain_general(uint32_t bus, uint32_t longest, uint32_t reset, uint8_t *out, size_t out_len, size_t *made);
+
+uint32_t plain_decode(uint32_t bus, uint32_t code, uint32_t address, uint32_t asked, const uint8_t *reply,
+                      size_t reply_len, uint32_t *status, size_t *start, size_t *len);
+
+uint32_t plain_two_reads(uint32_t code, uint32_t asked, const uint8_t *first, size_t first_len, const uint8_t *second,
+                         size_t second_len, size_t *start, size_t *len);
+
+uint32_t plain_version(uint32_t major, uint32_t minor, uint32_t *known_major, uint32_t *known_minor);
+
+#endif

@@ -1,0 +1,57 @@
+// Document 01, "Commands": the fixed table of argument lengths, looked up by command code. Board, encoder and decoder know from here what is served.
+ghost use mathlib.Core.Path.{_≡_};
+ghost use Prim.Native.Nat.{ℕ};
+ghost use lib.ListN.{getD};
+ghost use Rattle.rules.specs.Commands.{tabled, served, lengthAllowed};
+
+// One row per code 0x00 to 0x0e: served or not, shortest, longest.
+pub const ARGUMENTS: [[u8; 3]; 15] = [
+    [1, 0, 0],
+    [1, 2, 2],
+    [0, 0, 0],
+    [1, 0, 0],
+    [1, 0, 0],
+    [1, 0, 0],
+    [1, 2, 254],
+    [1, 0, 0],
+    [1, 3, 3],
+    [1, 0, 0],
+    [0, 0, 0],
+    [0, 0, 0],
+    [1, 0, 0],
+    [0, 0, 0],
+    [0, 0, 0],
+];
+
+fn wide(x: u8) -> usize
+    ensures { λ r. ⌜ r ≡ x ⌝ }
+{
+    x as usize
+}
+
+// The row of a code; zeros for a code that the table has no row for.
+fn row(code: usize) -> [u8; 3]
+    ensures { λ r. ⌜ ((column : ℕ) → getD r column 0 ≡ tabled code column) ⌝ }
+{
+    if 15 <= code {
+        return [0, 0, 0];
+    }
+    let rows = ARGUMENTS;
+    rows[code]
+}
+
+// The command is served here.
+pub fn served(code: usize) -> bool
+    ensures { λ r. ⌜ r ≡ served code ⌝ }
+{
+    let r = row(code);
+    r[0] == 1
+}
+
+// So many argument bytes are allowed for the command.
+pub fn length_allowed(code: usize, n: usize) -> bool
+    ensures { λ r. ⌜ r ≡ lengthAllowed code n ⌝ }
+{
+    let r = row(code);
+    wide(r[1]) <= n && n <= wide(r[2])
+}

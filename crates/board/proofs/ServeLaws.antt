@@ -1,0 +1,110 @@
+-- A frame taken apart, results that fit, and the numbers that a judged frame gets. Assumes nothing.
+use mathlib.Core.Path.{_≡_, refl, sym, ap, _∙_}
+use mathlib.Core.Bool.{Bool, true, false}
+use mathlib.Core.List.{List, [], _++_}
+use Prim.Native.Nat.{ℕ, _+_, _-_, _≤_}
+use native.Mathlib.Omega.{arith}
+use lib.ListN.{length, take, drop}
+use lib.Seq.{take-add, drop-at, length-take-le}
+use Rattle.rules.specs.declared.kinds.Bus.{Bus}
+use Rattle.rules.specs.declared.kinds.Address.{Address}
+use Rattle.rules.specs.declared.kinds.Verdict.{Verdict}
+use Rattle.rules.specs.declared.kinds.Verdict.the-variants.{Reset, Running, ResetAddress, Short, Long, WrongSum, Foreign, OtherGeneral, BadTransfer, BadSum, Command}
+use Rattle.rules.specs.Profile.{Profile}
+use Rattle.rules.specs.State as rules
+use Rattle.rules.specs.Numbers.{number}
+use Rattle.rules.specs.Frames.{shortestRequest, shortestReply, verdict, destination, commandOf, argumentsOf}
+use Rattle.rules.specs.Commands as commands
+use Rattle.rules.specs.Commands.{Response, Says, Silent, Acted, obeyed}
+use Rattle.rules.specs.Board.{Called, replied, judged}
+use Rattle.rules.proofs.CommandLaws as laws
+use Rattle.rules.proofs.VerdictLaws.{Framed, framing-cases, verdict-cases}
+use Rattle.rules.proofs.StateLaws.{Sound}
+use Rattle.state.specs.declared.State.{State}
+use Rattle.queries.specs.declared.Response as queries
+use Rattle.queries.specs.Done.{counted}
+use Rattle.board.specs.declared.Answer.{Answer}
+use Rattle.board.specs.Answered.{Seen, seen, told, Answered, Fits}
+
+-- a part of a list, cut behind first or before first
+pub take-drop : (k e : ℕ) (l : List ℕ) → k ≤ e → e ≤ length l → take (e - k) (drop k l) ≡ drop k (take e l)
+take-drop k e l before within =
+    let parts : e ≡ k + (e - k) = omega arith in
+    sym (ap (λ (n : ℕ). drop k (take n l)) parts
+    ∙ rw (take-add k (e - k) l) (drop-at (take k l) (take (e - k) (drop k l)) k (length-take-le k l (omega arith))))
+
+-- a command's results fit the reply buffer and the last reply
+pub fits-counted : (p : Profile) (n : ℕ) (r : Response) → p .longest ≤ 256 → p .longest ≤ n → laws.Fits p r → Fits (p .bus) n (counted r)
+fits-counted p n (Says status results) small room fits = (omega arith, omega arith)
+fits-counted p n Silent small room fits = tt
+
+-- a frame whose verdict is a command is long enough to be one
+pub command-long : (bus : Bus) (M : ℕ) (running : Bool) (own : Address) (a : ℕ) (f : List ℕ) → verdict bus M running own a f ≡ Command → shortestRequest bus ≤ length f
+command-long bus M running own a f =
+    verdict-cases bus M running own a f (λ (v : Verdict). v ≡ Command → shortestRequest bus ≤ length f)
+    (record {
+      reset = λ g e. absurd (never Reset refl e);
+      run = λ g r e. absurd (never Running refl e);
+      reset-address = λ g r h e. absurd (never ResetAddress refl e);
+      framed = λ g r h.
+          framing-cases bus M own a f (λ (v : Verdict). v ≡ Command → shortestRequest bus ≤ length f)
+          (record {
+            short = λ b e. absurd (never Short refl e);
+            long = λ b e. absurd (never Long refl e);
+            wrong-sum = λ b e. absurd (never WrongSum refl e);
+            foreign = λ e. absurd (never Foreign refl e);
+            other-general = λ e. absurd (never OtherGeneral refl e);
+            bad-transfer = λ b e. absurd (never BadTransfer refl e);
+            bad-sum = λ b e. absurd (never BadSum refl e);
+            command = λ framed e. framed .length-least;
+          });
+    })
+  where
+    isCommand : Verdict → ℕ
+    isCommand Reset = 0
+    isCommand Running = 0
+    isCommand ResetAddress = 0
+    isCommand Short = 0
+    isCommand Long = 0
+    isCommand WrongSum = 0
+    isCommand Foreign = 0
+    isCommand OtherGeneral = 0
+    isCommand BadTransfer = 0
+    isCommand BadSum = 0
+    isCommand Command = 1
+
+    never : (v : Verdict) → isCommand v ≡ 0 → v ≡ Command → ⊥
+    never v none e = let z : _≡_ {A = ℕ} 0 1 = sym none ∙ ap isCommand e in omega arith
+
+-- a judged frame gets 0 or 1
+replied-number : (bus : Bus) (a : ℕ) (r : Response) (s : rules.State) (d : List ℕ) → replied bus a r s d .number ≤ 1
+replied-number bus a (Says status results) s d = omega arith
+replied-number bus a Silent s d = omega arith
+
+pub judged-number : (p : Profile) (s : rules.State) (a : ℕ) (f d : List ℕ) (v : Verdict) → judged p s a f d v .number ≤ 1
+unfolding judged
+judged-number p s a f d Reset = omega arith
+judged-number p s a f d Running = omega arith
+judged-number p s a f d ResetAddress = omega arith
+judged-number p s a f d Short = omega arith
+judged-number p s a f d Long = omega arith
+judged-number p s a f d WrongSum = omega arith
+judged-number p s a f d Foreign = omega arith
+judged-number p s a f d OtherGeneral = omega arith
+judged-number p s a f d BadTransfer = omega arith
+judged-number p s a f d BadSum = omega arith
+judged-number p s a f d Command =
+    let acted : Acted = obeyed p s (commandOf (p .bus) f) (argumentsOf (p .bus) f) d in
+    replied-number (p .bus) (destination (p .bus) a f) (acted .response) (acted .state) (acted .flash)
+
+-- a call that is not refused makes no promise about bytes that mean nothing
+pub answered : (s : State) (r : Answer) (d out before : List ℕ) (c : Called) → seen r d out ≡ told c before → c .number ≤ 1 → Answered s r d out before c
+answered s r d out before c e small =
+    record { called = e; untouched = λ two. absurd (let n : number (r .outcome) ≡ c .number = ap (λ (x : Seen). x .number) e in omega arith) }
+
+-- what an obeyed command says fits the buffer that it was served with
+pub fits-served : (p : Profile) (s : rules.State) (code : ℕ) (args d : List ℕ) (n m k : ℕ) → Sound p s n m → length d ≡ n → k ≡ m → (r : queries.Response)
+    → r ≡ counted (obeyed p s code args d .response) → Fits (p .bus) k r
+fits-served p s code args d n m k sound flash buffer r e =
+    let sane = laws.obeyed-sane p (sound .profile) s (sound .state .upload) d (omega (arith, sound .flash-holds)) code args in
+    rw e (fits-counted p k (obeyed p s code args d .response) (sound .profile .longest-most) (omega (arith, sound .buffer-holds)) (sane .fits))

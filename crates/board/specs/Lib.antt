@@ -1,0 +1,2 @@
+-- What the two board calls promise.
+pub mod Answered

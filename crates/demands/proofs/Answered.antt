@@ -1,0 +1,136 @@
+-- What a well-framed request gets from the board of the rules: it is judged a command, so its answer is the command's own. Assumes nothing.
+use mathlib.Core.Path.{_≡_, refl, sym, _∙_}
+use mathlib.Core.Bool.{Bool, true, false, not, _&&_, and-eq-true-iff, false≢true}
+use mathlib.Core.List.{List, [], _∷_}
+use Prim.Native.Nat.{ℕ, _+_, _-_, _≤_}
+use native.Mathlib.Omega.{arith}
+use lib.Dec.{leb}
+use lib.ListN.{length, take, drop, getD, length-drop}
+use lib.Seq.{length-take-le}
+use borrow.Author.Tests.{not-true, le-leb}
+use Rattle.rules.specs.declared.kinds.Bus.{Bus}
+use Rattle.rules.specs.declared.kinds.Bus.the-variants.{I2c, Rs485}
+use Rattle.rules.specs.declared.kinds.Verdict.{Verdict}
+use Rattle.rules.specs.declared.kinds.Verdict.the-variants.{Reset, Running, ResetAddress, Short, Long, WrongSum, Foreign, OtherGeneral, BadTransfer, BadSum, Command}
+use Rattle.rules.specs.Profile.{Profile}
+use Rattle.rules.specs.State.{State}
+use Rattle.rules.specs.CheckSums.{sumRight}
+use Rattle.rules.specs.Frames.{shortestRequest, destination, commandOf, argumentsOf, numberAt, framing, verdict}
+use Rattle.rules.specs.Commands.{Says, told, accepted, written, readable, shown, performed, obeyed, tabled, ok, invalidArguments}
+use Rattle.rules.specs.Board.{finishedCall, judged}
+use Rattle.rules.proofs.UploadLaws.{by-test}
+use Rattle.rules.proofs.VerdictLaws.{Framed, framing-cases, verdict-cases}
+use Rattle.demands.specs.Past.{isCommand, wellFramed}
+use Rattle.demands.proofs.PastLaws.{seen}
+
+isCommand-true : (v : Verdict) → isCommand v ≡ true → v ≡ Command
+isCommand-true Reset e = absurd (false≢true e)
+isCommand-true Running e = absurd (false≢true e)
+isCommand-true ResetAddress e = absurd (false≢true e)
+isCommand-true Short e = absurd (false≢true e)
+isCommand-true Long e = absurd (false≢true e)
+isCommand-true WrongSum e = absurd (false≢true e)
+isCommand-true Foreign e = absurd (false≢true e)
+isCommand-true OtherGeneral e = absurd (false≢true e)
+isCommand-true BadTransfer e = absurd (false≢true e)
+isCommand-true BadSum e = absurd (false≢true e)
+isCommand-true Command e = refl
+
+-- a request is at least two bytes longer than its arguments
+length-arguments : (place ending : ℕ) (f : List ℕ) → length (drop place (take (length f - ending) f)) ≡ length f - ending - place
+length-arguments place ending f = length-drop place (take (length f - ending) f) ∙ rw (length-take-le (length f - ending) f (omega arith))
+
+arguments-within : (bus : Bus) (f : List ℕ) → shortestRequest bus ≤ length f → length (argumentsOf bus f) + 2 ≤ length f
+arguments-within I2c f h = omega (arith, length-arguments 1 1 f)
+arguments-within Rs485 f h = omega (arith, length-arguments 2 2 f)
+
+module _ (p : Profile) (s : State) (a : ℕ) (f : List ℕ) (heard : wellFramed p (seen s) a f ≡ true) where
+  stopped : s .running ≡ false
+  unfolding wellFramed
+  stopped = not-true (s .running) (and-eq-true-iff (not (s .running)) (isCommand (framing (p .bus) (p .longest) (s .address) a f)) .0 heard .0)
+
+  framing-command : framing (p .bus) (p .longest) (s .address) a f ≡ Command
+  unfolding wellFramed
+  framing-command =
+      isCommand-true _ (and-eq-true-iff (not (s .running)) (isCommand (framing (p .bus) (p .longest) (s .address) a f)) .0 heard .1)
+
+  framed : Framed (p .bus) (p .longest) (s .address) a f
+  framed =
+      framing-cases (p .bus) (p .longest) (s .address) a f (λ (v : Verdict). isCommand v ≡ true → Framed (p .bus) (p .longest) (s .address) a f)
+      (record {
+        short = λ b e. absurd (false≢true e);
+        long = λ b e. absurd (false≢true e);
+        wrong-sum = λ b e. absurd (false≢true e);
+        foreign = λ e. absurd (false≢true e);
+        other-general = λ e. absurd (false≢true e);
+        bad-transfer = λ b e. absurd (false≢true e);
+        bad-sum = λ b e. absurd (false≢true e);
+        command = λ framed e. framed;
+      })
+      (rw framing-command)
+
+  verdict-command : verdict (p .bus) (p .longest) (s .running) (s .address) a f ≡ Command
+  unfolding verdict
+  verdict-command = rw (framed .addressed, stopped, framing-command)
+
+  pub judged-command : (d : List ℕ) → judged p s a f d (verdict (p .bus) (p .longest) (s .running) (s .address) a f)
+      ≡ finishedCall (p .bus) (destination (p .bus) a f) (obeyed p s (commandOf (p .bus) f) (argumentsOf (p .bus) f) d)
+  unfolding judged
+  judged-command d = rw verdict-command
+
+  pub arguments-most : p .longest ≤ 256 → length (argumentsOf (p .bus) f) ≤ 254
+  arguments-most h = omega (arith, framed .length-most, arguments-within (p .bus) f (framed .length-least))
+
+-- what the commands of the claim say
+
+module _ (p : Profile) (s : State) (args d : List ℕ) where
+  -- a write of at least two argument bytes, in order and in range
+  abbrev ordered : Bool
+  ordered = leb 2 (length args) && accepted (p .size) (s .upload .next) (numberAt args 0) (length args - 2)
+
+  pub write-accepted : length args ≤ 254 → ordered ≡ true → obeyed p s 0x06 args d .response ≡ Says ok []
+  unfolding obeyed performed tabled written
+  write-accepted most e =
+      let parts = and-eq-true-iff (leb 2 (length args)) (accepted (p .size) (s .upload .next) (numberAt args 0) (length args - 2)) .0 e in
+      rw (parts .0, le-leb (length args) 254 most, length-drop 2 args, parts .1)
+
+  pub write-refused : ordered ≡ false → obeyed p s 0x06 args d ≡ told s d invalidArguments []
+  unfolding obeyed performed tabled written
+  write-refused e =
+      by-test (leb 2 (length args))
+      (λ two.
+      by-test (leb (length args) 254) (λ most. rw (two, most, length-drop 2 args, rw two at e)) (λ most. rw (two, most)))
+      (λ two. rw two)
+
+  pub version-told : args ≡ [] → obeyed p s 0x00 args d ≡ told s d ok (2 ∷ 2 ∷ [])
+  unfolding obeyed performed tabled
+  version-told e = rw e
+
+  pub read-told : length args ≡ 3 → readable p (numberAt args 0) (getD args 2 0) ≡ true
+      → obeyed p s 0x08 args d ≡ told s d ok (take (getD args 2 0) (drop (p .offset + numberAt args 0) d))
+  unfolding obeyed performed tabled shown
+  read-told three e = rw (three, e)
+
+-- on RS485 a damaged frame is dropped
+pub damaged-dropped : (p : Profile) (s : State) (a : ℕ) (f d : List ℕ) → p .bus ≡ Rs485 → sumRight Rs485 f ≡ false
+    → judged p s a f d (verdict (p .bus) (p .longest) (s .running) (s .address) a f) .number ≡ 1
+unfolding judged
+damaged-dropped p s a f d bus wrong =
+    verdict-cases (p .bus) (p .longest) (s .running) (s .address) a f (λ (v : Verdict). judged p s a f d v .number ≡ 1)
+    (record {
+      reset = λ e. refl;
+      run = λ g e. refl;
+      reset-address = λ g e r. refl;
+      framed = λ g e r.
+          framing-cases (p .bus) (p .longest) (s .address) a f (λ (v : Verdict). judged p s a f d v .number ≡ 1)
+          (record {
+            short = λ b. refl;
+            long = λ b. refl;
+            wrong-sum = λ b. refl;
+            foreign = refl;
+            other-general = refl;
+            bad-transfer = λ b. cc;
+            bad-sum = λ b. cc;
+            command = λ framed. absurd (false≢true (sym wrong ∙ rw bus at (framed .sum-right)));
+          });
+    })

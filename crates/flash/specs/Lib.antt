@@ -1,0 +1,2 @@
+-- What a commit of bytes to lent flash does.
+pub mod Committed

@@ -1,0 +1,4 @@
+// Frames as bytes, for board and master.
+pub mod reply;
+pub mod seal;
+pub mod sizes;

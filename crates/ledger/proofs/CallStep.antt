@@ -1,0 +1,92 @@
+-- One board call: if state and flash are the ledger's before it, they are after it. By the numbers 2 to 5, then by the verdict on the frame, in the
+-- order in which the rules ask. Assumes nothing.
+use mathlib.Core.Path.{_≡_, refl, sym, _∙_}
+use mathlib.Core.Bool.{Bool, true, false, cond, not, false≢true}
+use mathlib.Core.List.{List, []}
+use Prim.Native.Nat.{ℕ, _≤_}
+use native.Mathlib.Omega.{arith}
+use lib.Dec.{eqb}
+use lib.ListN.{length}
+use borrow.Author.Tests.{eqb-true}
+use Rattle.rules.specs.declared.kinds.Address.the-variants.{DefaultRange}
+use Rattle.rules.specs.declared.kinds.Verdict.{Verdict}
+use Rattle.rules.specs.Profile.{Profile, inRange}
+use Rattle.rules.specs.State.{State, wellFormed}
+use Rattle.rules.specs.Numbers.{refusal, flashShort, bufferShort}
+use Rattle.rules.specs.Frames.{destination, framing, verdict}
+use Rattle.rules.specs.Commands.{invalidTransfer, invalidCrc}
+use Rattle.rules.specs.Board.{nothing, addressReset, judged, received, readOut, readAnswered}
+use Rattle.rules.proofs.StateLaws.{Sound, refusal-sound}
+use Rattle.rules.proofs.UploadLaws.{by-test}
+use Rattle.rules.proofs.VerdictLaws.{framing-cases, verdict-cases}
+use Rattle.ledger.specs.Ledger.{Ledger, resetForm}
+use Rattle.ledger.proofs.FrameReading.{reset-form}
+use Rattle.ledger.proofs.Kept.{Keeps, keeps-other, Entered, refused-quiet, nothing-quiet, reset-enters, error-quiet}
+use Rattle.ledger.proofs.UploadStep.{Heard, sound-heard, heard-keeps}
+use Rattle.ledger.proofs.CommandStep.{obeyed-enters}
+
+-- a frame by its verdict
+
+module _ (p : Profile) (s : State) (d : List ℕ) (k : Ledger) (a : ℕ) (f : List ℕ) where
+  abbrev Judges : Verdict → Type 0
+  Judges v = Entered p k a f (judged p s a f d v)
+
+  framing-judges : Heard p s d k → resetForm (p .bus) a f ≡ false → Judges (framing (p .bus) (p .longest) (s .address) a f)
+  unfolding judged
+  framing-judges h form =
+      let kept = heard-keeps p s d k h in
+      let dropped : Entered p k a f (nothing s d) = nothing-quiet p k a f s d form kept in
+      framing-cases (p .bus) (p .longest) (s .address) a f Judges
+      (record {
+        short = λ rs485. dropped;
+        long = λ rs485. dropped;
+        wrong-sum = λ rs485. dropped;
+        foreign = dropped;
+        other-general = dropped;
+        bad-transfer = λ i2c. error-quiet p k a f (destination (p .bus) a f) invalidTransfer [] s d refl kept;
+        bad-sum = λ i2c. error-quiet p k a f (destination (p .bus) a f) invalidCrc [] s d refl kept;
+        command = λ framed. obeyed-enters p s d k a f (destination (p .bus) a f) h form;
+      })
+
+  verdict-judges : (m : ℕ) → Sound p s (length d) m → Keeps p s d k → Judges (verdict (p .bus) (p .longest) (s .running) (s .address) a f)
+  unfolding judged
+  verdict-judges m sound i =
+      let form = reset-form (p .bus) a f in
+      verdict-cases (p .bus) (p .longest) (s .running) (s .address) a f Judges
+      (record {
+        reset = λ e. reset-enters p k a f s d (form ∙ e) i;
+        run = λ other on. nothing-quiet p k a f s d (form ∙ other) i;
+        reset-address = λ other off e. nothing-quiet p k a f (addressReset s) d (form ∙ other) (keeps-other p s d k DefaultRange [] i);
+        framed = λ other off e. framing-judges (sound-heard p s d k m sound off i) (form ∙ other);
+      })
+
+-- a refusal is 2 or above
+refusal-least : (p : Profile) (s : State) (n m : ℕ) → eqb (refusal p s n m) 0 ≡ false → 2 ≤ refusal p s n m
+unfolding refusal
+refusal-least p s n m e = go (not (inRange p)) (flashShort p n) (not (wellFormed p s)) (bufferShort p m) e
+  where
+    go : (range flash state buffer : Bool) → eqb (cond range 2 (cond flash 3 (cond state 4 (cond buffer 5 0)))) 0 ≡ false
+        → 2 ≤ cond range 2 (cond flash 3 (cond state 4 (cond buffer 5 0)))
+    go true flash state buffer e = omega arith
+    go false true state buffer e = omega arith
+    go false false true buffer e = omega arith
+    go false false false true e = omega arith
+    go false false false false e = absurd (false≢true (sym e))
+
+-- a received frame
+pub received-enters : (p : Profile) (s : State) (d : List ℕ) (k : Ledger) (a : ℕ) (f : List ℕ) (m : ℕ) → Keeps p s d k
+    → Entered p k a f (received p s a f d m)
+unfolding received
+received-enters p s d k a f m i =
+    by-test (eqb (refusal p s (length d) m) 0)
+    (λ e. rw e (verdict-judges p s d k a f m (refusal-sound p s (length d) m (eqb-true _ _ e)) i))
+    (λ e. rw e (refused-quiet p k a f (refusal p s (length d) m) s d (refusal-least p s (length d) m e) i))
+
+-- an I²C read
+pub readOut-keeps : (p : Profile) (s : State) (d : List ℕ) (k : Ledger) (a m : ℕ) → Keeps p s d k
+    → Keeps p (readOut p s a d m .state) (readOut p s a d m .flash) k
+unfolding readOut
+readOut-keeps p s d k a m i =
+    by-test (eqb (refusal p s (length d) m) 0)
+    (λ e. rw e (by-test (readAnswered (p .bus) s a) (λ some. rw some i) (λ none. rw none i)))
+    (λ e. rw e i)

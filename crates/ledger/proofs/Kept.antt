@@ -1,0 +1,100 @@
+-- What is kept between board and ledger from call to call, and the answers of which the ledger makes nothing: a refusal, silence, a reply that says
+-- no OK to a write or a finalize. After these neither side has changed; after a reset both begin anew. Assumes nothing.
+use mathlib.Core.Path.{_≡_, refl, sym, _∙_}
+use mathlib.Core.Bool.{true, false, _&&_, false≢true}
+use mathlib.Core.List.{List, []}
+use Prim.Native.Nat.{ℕ, _≤_}
+use native.Mathlib.Omega.{arith}
+use lib.Dec.{eqb}
+use lib.ListN.{length}
+use borrow.Author.Tests.{ne-eqb}
+use Rattle.rules.specs.declared.kinds.Bus.{Bus}
+use Rattle.rules.specs.declared.kinds.Bus.the-variants.{I2c, Rs485}
+use Rattle.rules.specs.declared.kinds.Address.{Address}
+use Rattle.rules.specs.Profile.{Profile}
+use Rattle.rules.specs.State.{State, fresh}
+use Rattle.rules.specs.Frames.{commandOf}
+use Rattle.rules.specs.Commands.{Says, Silent}
+use Rattle.rules.specs.Board.{Called, nothing, withLast, replied, refused}
+use Rattle.ledger.specs.Ledger.{Ledger, opened, entered, resetForm, isFinalize, replyCount}
+use Rattle.ledger.proofs.LedgerLaws.{rest}
+use Rattle.ledger.proofs.Balance.{Balanced, opened-balanced, Settled}
+use Rattle.ledger.proofs.FrameReading.{and-false, answered-reply, entered-refused, entered-nothing, entered-reset, entered-reply}
+
+-- the board's state and flash are the ledger's; a running board has lost its waiting bytes, and takes none before a reset
+pub record Keeps (p : Profile) (s : State) (d : List ℕ) (k : Ledger) : Type 0 where
+  pub balanced : Balanced p k
+  pub flash-is : d ≡ k .copy
+  pub count-is : s .upload .count ≡ k .count
+  pub next-is : s .upload .next ≡ length (k .accepted)
+  pub waiting-is : s .running ≡ false → s .upload .waiting ≡ rest k
+
+pub fresh-keeps : (p : Profile) (d e : List ℕ) → d ≡ e → Keeps p fresh d (opened e)
+fresh-keeps p d e same = record { balanced = opened-balanced p e; flash-is = same; count-is = refl; next-is = refl; waiting-is = λ off. refl }
+
+-- own address and last reply do not matter
+pub keeps-other : (p : Profile) (s : State) (d : List ℕ) (k : Ledger) (own : Address) (last : List ℕ) → Keeps p s d k
+    → Keeps p (record { address = own; running = s .running; upload = s .upload; last = last }) d k
+keeps-other p s d k own last i =
+    record { balanced = i .balanced; flash-is = i .flash-is; count-is = i .count-is; next-is = i .next-is; waiting-is = i .waiting-is }
+
+pub keeps-last : (bus : Bus) (p : Profile) (s : State) (d : List ℕ) (k : Ledger) (r : List ℕ) → Keeps p s d k → Keeps p (withLast bus s r) d k
+keeps-last I2c p s d k r i = keeps-other p s d k (s .address) r i
+keeps-last Rs485 p s d k r i = keeps-other p s d k (s .address) [] i
+
+-- what a finalize's reply and the ledger after it have to say
+pub record Closed (p : Profile) (k : Ledger) (r : List ℕ) : Type 0 where
+  pub count-told : replyCount (p .bus) r ≡ k .count
+  pub settled : Settled p k
+
+-- a received frame and its answer, entered
+pub record Entered (p : Profile) (k : Ledger) (a : ℕ) (f : List ℕ) (c : Called) : Type 0 where
+  pub keeps : Keeps p (c .state) (c .flash) (entered p k a f (c .number) (c .reply))
+  pub closes : isFinalize (p .bus) f (c .number) (c .reply) ≡ true → Closed p (entered p k a f (c .number) (c .reply)) (c .reply)
+
+-- an answer that the ledger makes nothing of
+quiet : (p : Profile) (k : Ledger) (a : ℕ) (f : List ℕ) (c : Called) → entered p k a f (c .number) (c .reply) ≡ k
+    → isFinalize (p .bus) f (c .number) (c .reply) ≡ false → Keeps p (c .state) (c .flash) k → Entered p k a f c
+quiet p k a f c same none i = record { keeps = rw same i; closes = λ some. absurd (false≢true (sym none ∙ some)) }
+
+nothing-final : (bus : Bus) (f : List ℕ) → isFinalize bus f 1 [] ≡ false
+nothing-final bus f = simp and-false
+
+module _ (p : Profile) (k : Ledger) (a : ℕ) (f : List ℕ) where
+  pub refused-quiet : (n : ℕ) (s : State) (d : List ℕ) → 2 ≤ n → Keeps p s d k → Entered p k a f (refused n s d)
+  refused-quiet n s d h i =
+      quiet p k a f (refused n s d) (entered-refused p k a f n [] h) (rw (ne-eqb n 0 (λ e. omega arith)) (simp and-false)) i
+
+  pub nothing-quiet : (s : State) (d : List ℕ) → resetForm (p .bus) a f ≡ false → Keeps p s d k → Entered p k a f (nothing s d)
+  nothing-quiet s d e i = quiet p k a f (nothing s d) (entered-nothing p k a f [] e) (nothing-final (p .bus) f) i
+
+  pub reset-enters : (s : State) (d : List ℕ) → resetForm (p .bus) a f ≡ true → Keeps p s d k → Entered p k a f (nothing fresh d)
+  reset-enters s d e i = record {
+    keeps = rw (entered-reset p k a f [] e) (fresh-keeps p d (k .copy) (i .flash-is));
+    closes = λ some. absurd (false≢true (sym (nothing-final (p .bus) f) ∙ some));
+  }
+
+  -- a reply that says no OK to a write or a finalize
+  reply-quiet : (address status : ℕ) (results : List ℕ) (s : State) (d : List ℕ)
+      → (eqb (commandOf (p .bus) f) 0x06 && eqb status 0) ≡ false → (eqb (commandOf (p .bus) f) 0x07 && eqb status 0) ≡ false
+      → Keeps p s d k → Entered p k a f (replied (p .bus) address (Says status results) s d)
+  reply-quiet address status results s d w z i =
+      quiet p k a f (replied (p .bus) address (Says status results) s d)
+      (entered-reply p k a f address status results ∙ rw (w, z))
+      (answered-reply (p .bus) 0x07 f address status results ∙ z)
+      (keeps-last (p .bus) p s d k _ i)
+
+  pub error-quiet : (address status : ℕ) (results : List ℕ) (s : State) (d : List ℕ) → eqb status 0 ≡ false
+      → Keeps p s d k → Entered p k a f (replied (p .bus) address (Says status results) s d)
+  error-quiet address status results s d e i =
+      let none : (code : ℕ) → (eqb (commandOf (p .bus) f) code && eqb status 0) ≡ false = λ code. rw e (and-false (eqb (commandOf (p .bus) f) code)) in
+      reply-quiet address status results s d (none 0x06) (none 0x07) i
+
+  pub other-quiet : (address status : ℕ) (results : List ℕ) (s : State) (d : List ℕ)
+      → eqb (commandOf (p .bus) f) 0x06 ≡ false → eqb (commandOf (p .bus) f) 0x07 ≡ false
+      → Keeps p s d k → Entered p k a f (replied (p .bus) address (Says status results) s d)
+  other-quiet address status results s d w z i = reply-quiet address status results s d (rw w) (rw z) i
+
+  pub silent-quiet : (address : ℕ) (s : State) (d : List ℕ) → resetForm (p .bus) a f ≡ false
+      → Keeps p s d k → Entered p k a f (replied (p .bus) address Silent s d)
+  silent-quiet address s d e i = nothing-quiet (withLast (p .bus) s []) d e (keeps-last (p .bus) p s d k [] i)

@@ -1,0 +1,15 @@
+pub mod LedgerLaws
+pub mod PageLaws
+pub mod Balance
+pub mod CommitStep
+pub mod ByteStep
+pub mod FrameReading
+pub mod Kept
+pub mod UploadStep
+pub mod CommandStep
+pub mod CallStep
+pub mod Finish
+pub mod Repeat
+pub mod Pieces
+pub mod Again
+pub mod EveryList

@@ -1,0 +1,9 @@
+// Demand 3, stated where a reader meets it.
+ghost use Rattle.ledger.specs.Calls.{ruled};
+ghost use Rattle.ledger.specs.Claim.{Demand3};
+
+// For every list of calls from the fresh board with any flash, under any one profile: flash, counts and finished uploads
+// are the ledger's, and the same upload again counts 0. It does nothing.
+pub fn every_list()
+    ensures { λ _. ⌜ Demand3 ruled ⌝ }
+{}

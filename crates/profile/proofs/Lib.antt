@@ -1,0 +1,2 @@
+-- Laws of the check that crates above cite.
+pub mod Laws

@@ -1,0 +1,2 @@
+-- What a command function leaves and asks.
+pub mod Done

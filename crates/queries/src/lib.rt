@@ -1,0 +1,148 @@
+// The commands that only tell: version, hardware info, serial, read, revision, longest frame. Results go straight into the lent buffer.
+use profile::Profile;
+use rules::kinds::Bus;
+use state::State;
+ghost use mathlib.Core.Path.{_≡_};
+ghost use mathlib.Core.List.{List, [], _∷_};
+ghost use Prim.Native.Nat.{ℕ, _+_, _≤_};
+ghost use lib.ListN.{length};
+ghost use Rattle.rules.specs.Frames.{twoBytes, shortestReply};
+ghost use Rattle.rules.specs.Commands.{told, ok, hardwareInfo, serialNumber, shown};
+ghost use Rattle.state.specs.View.{view};
+ghost use Rattle.profile.specs.View.{profileOf};
+ghost use Rattle.queries.specs.Done.{seen, done, Serving};
+
+// A status with so many results, or nothing to send.
+pub enum Response {
+    Says { status: u8, count: usize },
+    Silent,
+}
+
+pub struct Done {
+    pub response: Response,
+    pub state: State,
+}
+
+// The status codes of a reply.
+pub const OK: u8 = 0;
+
+pub const COMMAND_NOT_SUPPORTED: u8 = 2;
+
+pub const INVALID_TRANSFER: u8 = 3;
+
+pub const INVALID_CRC: u8 = 4;
+
+pub const INVALID_ARGUMENTS: u8 = 5;
+
+// A status and its results; the state stays.
+pub fn say(s: State, status: u8, results: &[u8], out: &mut [u8], at: usize) -> Done
+    requires { ⌜ at + length (now results) ≤ length (now out) ⌝ }
+    ensures { λ r.
+        ⌜ ((d : List ℕ) → seen r d (now (out .exit)) ≡ done (told (view s) d status (now (results .entry))) (now (out .entry)) at) ⌝ }
+{
+    let count = results.len();
+    flash::store(out, at, results);
+    Done {
+        response: Response::Says { status, count },
+        state: s,
+    }
+}
+
+// A number in two bytes, big-endian.
+fn two_bytes(n: usize) -> [u8; 2]
+    requires { ⌜ n ≤ 65535 ⌝ }
+    ensures { λ r. ⌜ r ≡ twoBytes n ⌝ }
+{
+    [(n / 256 % 256) as u8, (n % 256) as u8]
+}
+
+// A status and a number of two bytes.
+pub fn say_number(s: State, n: usize, out: &mut [u8], at: usize) -> Done
+    requires { ⌜ (n ≤ 65535) × (at + 2 ≤ length (now out)) ⌝ }
+    ensures { λ r. ⌜ ((d : List ℕ) → seen r d (now (out .exit)) ≡ done (told (view s) d ok (twoBytes n)) (now (out .entry)) at) ⌝ }
+{
+    let bytes = two_bytes(n);
+    say(s, OK, &bytes, out, at)
+}
+
+// 0x00 version: results 2, 2.
+pub fn version(s: State, out: &mut [u8], at: usize) -> Done
+    requires { ⌜ at + 2 ≤ length (now out) ⌝ }
+    ensures { λ r. ⌜ ((d : List ℕ) → seen r d (now (out .exit)) ≡ done (told (view s) d ok (2 ∷ 2 ∷ [])) (now (out .entry)) at) ⌝ }
+{
+    say(s, OK, &[2, 2], out, at)
+}
+
+// 0x03 hardware info: type, compatible revision, bootloader version, S in two bytes.
+pub fn hardware_info(p: Profile, s: State, out: &mut [u8], at: usize) -> Done
+    requires { ⌜ (p .size ≤ 65535) × (at + 5 ≤ length (now out)) ⌝ }
+    ensures { λ r. ⌜ ((d : List ℕ) → seen r d (now (out .exit)) ≡ done (told (view s) d ok (hardwareInfo (profileOf p))) (now (out .entry)) at) ⌝ }
+{
+    let size = two_bytes(p.size);
+    say(
+        s,
+        OK,
+        &[p.hardware, p.compatible, p.version, size[0], size[1]],
+        out,
+        at,
+    )
+}
+
+// 0x04 serial: its bytes; if empty, COMMAND_NOT_SUPPORTED.
+pub fn serial(p: Profile, s: State, out: &mut [u8], at: usize) -> Done
+    requires { ⌜ (p .seriallen ≤ 16) × (at + 16 ≤ length (now out)) ⌝ }
+    ensures { λ r. ⌜ ((d : List ℕ) → seen r d (now (out .exit)) ≡ done (serialNumber (profileOf p) (view s) d) (now (out .entry)) at) ⌝ }
+{
+    let len = p.seriallen;
+    if len == 0 {
+        return say(s, COMMAND_NOT_SUPPORTED, &[], out, at);
+    }
+    let bytes = p.serial;
+    say(s, OK, &bytes[..len], out, at)
+}
+
+// 0x09 actual revision.
+pub fn revision(p: Profile, s: State, out: &mut [u8], at: usize) -> Done
+    requires { ⌜ at + 1 ≤ length (now out) ⌝ }
+    ensures { λ r. ⌜ ((d : List ℕ) → seen r d (now (out .exit)) ≡ done (told (view s) d ok (p .actual ∷ [])) (now (out .entry)) at) ⌝ }
+{
+    say(s, OK, &[p.actual], out, at)
+}
+
+fn wide(x: u8) -> usize
+    ensures { λ r. ⌜ (r ≡ x) × (r ≤ 255) ⌝ }
+{
+    x as usize
+}
+
+// The longest result part of a reply.
+fn longest_results(bus: Bus, longest: usize) -> usize
+    requires { ⌜ 32 ≤ longest ⌝ }
+    ensures { λ r. ⌜ r + shortestReply bus ≡ longest ⌝ }
+{
+    match bus {
+        Bus::I2c => longest - 3,
+        Bus::Rs485 => longest - 5,
+    }
+}
+
+// 0x08 read: address in two bytes, length in one. It shows flash, never waiting bytes.
+pub fn read(p: Profile, s: State, args: &[u8], flash: &[u8], out: &mut [u8], at: usize) -> Done
+    requires { ⌜ Serving p s (length (now flash)) (length (now out)) at ⌝ }
+    requires { ⌜ length (now args) ≡ 3 ⌝ }
+    ensures { λ r.
+        ⌜ seen r (now (flash .entry)) (now (out .exit)) ≡ done (shown (profileOf p) (view s) (now (args .entry)) (now (flash .entry))) (now (out .entry)) at ⌝ }
+{
+    let address = wide(args[0]) * 256 + wide(args[1]);
+    let n = wide(args[2]);
+    if p.size < address + n {
+        return say(s, INVALID_ARGUMENTS, &[], out, at);
+    }
+    let bus = p.bus;
+    if longest_results(bus, p.longest) < n {
+        return say(s, INVALID_ARGUMENTS, &[], out, at);
+    }
+    let start = p.offset + address;
+    let end = start + n;
+    say(s, OK, &flash[start..end], out, at)
+}

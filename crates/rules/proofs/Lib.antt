@@ -1,0 +1,9 @@
+pub mod BytesLaws
+pub mod CommitLaws
+pub mod CheckSumLaws
+pub mod StateLaws
+pub mod LaidLaws
+pub mod UploadLaws
+pub mod CommandLaws
+pub mod BoardLaws
+pub mod VerdictLaws

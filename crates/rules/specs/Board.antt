@@ -1,0 +1,83 @@
+-- The two board calls: a received frame and an I²C read. Total over any profile, state, address, frame, flash and buffer length.
+use mathlib.Core.Bool.{Bool, true, false, cond, not, _&&_, _||_}
+use mathlib.Core.List.{List, [], _∷_, _++_}
+use Prim.Native.Nat.{ℕ}
+use lib.Dec.{eqb}
+use lib.ListN.{length}
+use Rattle.rules.specs.declared.kinds.Bus.{Bus}
+use Rattle.rules.specs.declared.kinds.Bus.the-variants.{I2c, Rs485}
+use Rattle.rules.specs.declared.kinds.Address.the-variants.{DefaultRange}
+use Rattle.rules.specs.declared.kinds.Verdict.{Verdict}
+use Rattle.rules.specs.declared.kinds.Verdict.the-variants.{Reset, Running, ResetAddress, Short, Long, WrongSum, Foreign, OtherGeneral, BadTransfer, BadSum, Command}
+use Rattle.rules.specs.Profile.{Profile}
+use Rattle.rules.specs.State.{State, fresh}
+use Rattle.rules.specs.Numbers.{refusal}
+use Rattle.rules.specs.Frames.{reply, destination, hears, verdict, commandOf, argumentsOf}
+use Rattle.rules.specs.Commands.{Response, Says, Silent, Acted, told, obeyed, invalidTransfer, invalidCrc}
+
+-- what a board call answers and leaves: its number, the reply's bytes (none unless the number is 0), the state and the flash
+pub record Called : Type 0 where
+  pub number : ℕ
+  pub reply : List ℕ
+  pub state : State
+  pub flash : List ℕ
+
+-- nothing to send
+abbrev pub nothing : State → List ℕ → Called
+nothing s d = record { number = 1; reply = []; state = s; flash = d }
+
+-- the state with another last reply: only I²C keeps one
+abbrev pub withLast : Bus → State → List ℕ → State
+withLast I2c s r = record { address = s .address; running = s .running; upload = s .upload; last = r }
+withLast Rs485 s r = record { address = s .address; running = s .running; upload = s .upload; last = [] }
+
+-- a write to this board replaces the last reply with the new one, or by none where there's no reply
+abbrev pub replied : Bus → ℕ → Response → State → List ℕ → Called
+replied bus address (Says status results) s d =
+    record { number = 0; reply = reply bus address status results; state = withLast bus s (reply bus address status results); flash = d }
+replied bus address Silent s d = nothing (withLast bus s []) d
+
+-- what a command did, told to its sender
+abbrev pub finishedCall : Bus → ℕ → Acted → Called
+finishedCall bus address a = replied bus address (a .response) (a .state) (a .flash)
+
+-- default range again, last reply none, upload kept
+abbrev pub addressReset : State → State
+addressReset s = record { address = DefaultRange; running = s .running; upload = s .upload; last = [] }
+
+-- a frame by its verdict
+unfoldable pub judged : Profile → State → ℕ → List ℕ → List ℕ → Verdict → Called
+judged p s a f d Reset = nothing fresh d
+judged p s a f d Running = nothing s d
+judged p s a f d ResetAddress = nothing (addressReset s) d
+judged p s a f d Short = nothing s d
+judged p s a f d Long = nothing s d
+judged p s a f d WrongSum = nothing s d
+judged p s a f d Foreign = nothing s d
+judged p s a f d OtherGeneral = nothing s d
+judged p s a f d BadTransfer = finishedCall (p .bus) (destination (p .bus) a f) (told s d invalidTransfer [])
+judged p s a f d BadSum = finishedCall (p .bus) (destination (p .bus) a f) (told s d invalidCrc [])
+judged p s a f d Command = finishedCall (p .bus) (destination (p .bus) a f) (obeyed p s (commandOf (p .bus) f) (argumentsOf (p .bus) f) d)
+
+-- a call refused by a number of 2 or above: all untouched
+abbrev pub refused : ℕ → State → List ℕ → Called
+refused n s d = record { number = n; reply = []; state = s; flash = d }
+
+-- a received frame; the I²C address stands beside it, RS485 does not look at it
+unfoldable pub received : Profile → State → ℕ → List ℕ → List ℕ → ℕ → Called
+received p s a f d bufferLength =
+    cond (eqb (refusal p s (length d) bufferLength) 0)
+    (judged p s a f d (verdict (p .bus) (p .longest) (s .running) (s .address) a f))
+    (refused (refusal p s (length d) bufferLength) s d)
+
+-- there is a last reply for this address; with none, at a foreign address, at address 0, on RS485 or while running there is not
+abbrev pub readAnswered : Bus → State → ℕ → Bool
+readAnswered I2c s a = not (s .running) && (hears I2c (s .address) a && not (eqb (length (s .last)) 0))
+readAnswered Rs485 s a = false
+
+-- an I²C read answers the last reply unchanged, any number of times
+unfoldable pub readOut : Profile → State → ℕ → List ℕ → ℕ → Called
+readOut p s a d bufferLength =
+    cond (eqb (refusal p s (length d) bufferLength) 0)
+    (cond (readAnswered (p .bus) s a) (record { number = 0; reply = s .last; state = s; flash = d }) (nothing s d))
+    (refused (refusal p s (length d) bufferLength) s d)

@@ -1,0 +1,174 @@
+-- Document 01, "Commands": the table of argument lengths, and what each command does.
+use mathlib.Core.Bool.{Bool, true, false, cond, not, _&&_, _||_}
+use mathlib.Core.List.{List, [], _∷_, _++_}
+use Prim.Native.Nat.{ℕ, _+_, _-_, _%_}
+use lib.Dec.{eqb, leb, ltb}
+use lib.ListN.{length, take, drop, getD}
+use Rattle.rules.specs.declared.kinds.Bus.{Bus}
+use Rattle.rules.specs.declared.kinds.Bus.the-variants.{I2c, Rs485}
+use Rattle.rules.specs.declared.kinds.Address.the-variants.{Own}
+use Rattle.rules.specs.Profile.{Profile}
+use Rattle.rules.specs.State.{State, Upload, freshUpload}
+use Rattle.rules.specs.Frames.{twoBytes, numberAt, shortestReply}
+use Rattle.rules.specs.Commit.{Progress, takenAll, finalized}
+
+-- a fixed table of rows, one per code 0x00 to 0x0e: served or not, shortest, longest
+abbrev pub argumentRows : List (List ℕ)
+argumentRows =
+    (1 ∷ 0 ∷ 0 ∷ [])
+    ∷ (1 ∷ 2 ∷ 2 ∷ [])
+    ∷ (0 ∷ 0 ∷ 0 ∷ [])
+    ∷ (1 ∷ 0 ∷ 0 ∷ [])
+    ∷ (1 ∷ 0 ∷ 0 ∷ [])
+    ∷ (1 ∷ 0 ∷ 0 ∷ [])
+    ∷ (1 ∷ 2 ∷ 254 ∷ [])
+    ∷ (1 ∷ 0 ∷ 0 ∷ [])
+    ∷ (1 ∷ 3 ∷ 3 ∷ [])
+    ∷ (1 ∷ 0 ∷ 0 ∷ [])
+    ∷ (0 ∷ 0 ∷ 0 ∷ [])
+    ∷ (0 ∷ 0 ∷ 0 ∷ [])
+    ∷ (1 ∷ 0 ∷ 0 ∷ [])
+    ∷ (0 ∷ 0 ∷ 0 ∷ [])
+    ∷ (0 ∷ 0 ∷ 0 ∷ [])
+    ∷ []
+
+-- what the table has for a code; 0 for a code that it has no row for
+unfoldable pub tabled : ℕ → ℕ → ℕ
+tabled code column = getD (getD argumentRows code []) column 0
+
+-- the command is served here
+abbrev pub served : ℕ → Bool
+served code = eqb (tabled code 0) 1
+
+-- its argument length is allowed
+abbrev pub lengthAllowed : ℕ → ℕ → Bool
+lengthAllowed code n = leb (tabled code 1) n && leb n (tabled code 2)
+
+-- the status codes of a reply
+abbrev pub ok : ℕ
+ok = 0
+
+abbrev pub commandNotSupported : ℕ
+commandNotSupported = 2
+
+abbrev pub invalidTransfer : ℕ
+invalidTransfer = 3
+
+abbrev pub invalidCrc : ℕ
+invalidCrc = 4
+
+abbrev pub invalidArguments : ℕ
+invalidArguments = 5
+
+-- what a command says: a status with its results, or nothing
+pub data Response : Type 0 where
+  Says : ℕ → List ℕ → Response
+  Silent : Response
+
+pub record Acted : Type 0 where
+  pub response : Response
+  pub state : State
+  pub flash : List ℕ
+
+-- a reply that changes nothing
+abbrev pub told : State → List ℕ → ℕ → List ℕ → Acted
+told s d status results = record { response = Says status results; state = s; flash = d }
+
+-- the state with another upload
+abbrev pub withUpload : State → Upload → State
+withUpload s u = record { address = s .address; running = s .running; upload = u; last = s .last }
+
+-- the address that set address takes: on I²C with its top bit dropped
+abbrev pub addressTaken : Bus → ℕ → ℕ
+addressTaken I2c a = a % 128
+addressTaken Rs485 a = a
+
+-- 0x01 set address: address, type. Type neither own nor 0: silence
+unfoldable pub setAddress : Profile → State → List ℕ → List ℕ → Acted
+setAddress p s args d =
+    cond (eqb (getD args 1 0) (p .hardware) || eqb (getD args 1 0) 0)
+    (record {
+      response = Says ok [];
+      state = record { address = Own (addressTaken (p .bus) (getD args 0 0)); running = s .running; upload = s .upload; last = s .last };
+      flash = d;
+    })
+    (record { response = Silent; state = s; flash = d })
+
+-- 0x03 hardware info: type, compatible revision, bootloader version, S in two bytes
+abbrev pub hardwareInfo : Profile → List ℕ
+hardwareInfo p = p .hardware ∷ p .compatible ∷ p .version ∷ twoBytes (p .size)
+
+-- 0x04 serial: its bytes; if empty, COMMAND_NOT_SUPPORTED
+abbrev pub serialNumber : Profile → State → List ℕ → Acted
+serialNumber p s d = cond (eqb (length (p .serial)) 0) (told s d commandNotSupported []) (told s d ok (p .serial))
+
+-- 0x05 start: no reply, running; waiting bytes are lost, w = 0
+abbrev pub started : State → List ℕ → Acted
+started s d = record {
+  response = Silent;
+  state = record {
+    address = s .address;
+    running = true;
+    upload = record { next = s .upload .next; waiting = []; count = s .upload .count };
+    last = s .last;
+  };
+  flash = d;
+}
+
+-- 0x06 write is accepted exactly if the address is 0 or next, and address plus data length is at most S
+abbrev pub accepted : ℕ → ℕ → ℕ → ℕ → Bool
+accepted S next address n = (eqb address 0 || eqb address next) && leb (address + n) S
+
+-- an accepted write at 0 drops waiting bytes and sets the count to 0, even with no data
+abbrev pub begun : ℕ → Upload → Upload
+begun address u = cond (eqb address 0) freshUpload u
+
+-- 0x06 write: address, data bytes
+unfoldable pub written : Profile → State → List ℕ → List ℕ → Acted
+written p s args d =
+    let address : ℕ = numberAt args 0 in
+    let bytes : List ℕ = drop 2 args in
+    let g : Progress = takenAll p (record { upload = begun address (s .upload); flash = d }) bytes in
+    cond (accepted (p .size) (s .upload .next) address (length bytes))
+    (record { response = Says ok []; state = withUpload s (g .upload); flash = g .flash })
+    (told s d invalidArguments [])
+
+-- 0x07 finalize: results (house) are the erase count in two bytes
+unfoldable pub finished : Profile → State → List ℕ → Acted
+finished p s d =
+    let g : Progress = finalized p (record { upload = s .upload; flash = d }) in
+    record { response = Says ok (twoBytes (g .upload .count)); state = withUpload s (g .upload); flash = g .flash }
+
+-- 0x08 read (house) shows flash, never waiting bytes: within S, and no longer than a reply holds
+abbrev pub readable : Profile → ℕ → ℕ → Bool
+readable p address n = leb (address + n) (p .size) && leb n (p .longest - shortestReply (p .bus))
+
+-- 0x08 read: address in two bytes, length in one
+unfoldable pub shown : Profile → State → List ℕ → List ℕ → Acted
+shown p s args d =
+    let address : ℕ = numberAt args 0 in
+    let n : ℕ = getD args 2 0 in
+    cond (readable p address n)
+    (told s d ok (take n (drop (p .offset + address) d)))
+    (told s d invalidArguments [])
+
+-- the command's own rule, for a served code
+unfoldable pub performed : Profile → State → ℕ → List ℕ → List ℕ → Acted
+performed p s code args d =
+    cond (eqb code 0x00) (told s d ok (2 ∷ 2 ∷ []))
+    (cond (eqb code 0x01) (setAddress p s args d)
+    (cond (eqb code 0x03) (told s d ok (hardwareInfo p))
+    (cond (eqb code 0x04) (serialNumber p s d)
+    (cond (eqb code 0x05) (started s d)
+    (cond (eqb code 0x06) (written p s args d)
+    (cond (eqb code 0x07) (finished p s d)
+    (cond (eqb code 0x08) (shown p s args d)
+    (cond (eqb code 0x09) (told s d ok (p .actual ∷ []))
+    (told s d ok (twoBytes (p .longest)))))))))))
+
+-- unknown or unserved command, COMMAND_NOT_SUPPORTED; wrong argument length, INVALID_ARGUMENTS; then the command's own rule
+unfoldable pub obeyed : Profile → State → ℕ → List ℕ → List ℕ → Acted
+obeyed p s code args d =
+    cond (not (served code)) (told s d commandNotSupported [])
+    (cond (not (lengthAllowed code (length args))) (told s d invalidArguments [])
+    (performed p s code args d))

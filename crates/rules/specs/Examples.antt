@@ -1,0 +1,119 @@
+-- Document 01, "Proved examples": one table, one statement over its rows. E1 to E12, and the edges that it names as rows 13 to 19.
+use mathlib.Core.Bool.{Bool, cond}
+use mathlib.Core.List.{List, [], _∷_, _++_}
+use Prim.Native.Nat.{ℕ}
+use lib.ListN.{length, drop, replicate}
+use Rattle.rules.specs.declared.kinds.Bus.the-variants.{I2c, Rs485}
+use Rattle.rules.specs.Bytes.{same}
+use Rattle.rules.specs.Profile.{Profile}
+use Rattle.rules.specs.State.{fresh}
+use Rattle.rules.specs.Frames.{request, reply, resetFrame, resetAddressFrame}
+use Rattle.rules.specs.Board.{Called, nothing, received}
+
+-- an example: its number, what the definitions give, and what document 01 states
+pub record Row : Type 0 where
+  pub label : ℕ
+  pub given : List ℕ
+  pub stated : List ℕ
+
+abbrev pub row : ℕ → List ℕ → List ℕ → Row
+row label given stated = record { label = label; given = given; stated = stated }
+
+-- the numbers of the rows whose two sides differ
+unfoldable pub disagreeing : List Row → List ℕ
+disagreeing [] = []
+disagreeing (r ∷ rs) = cond (same (r .given) (r .stated)) (disagreeing rs) (r .label ∷ disagreeing rs)
+
+-- for E10 to E12 and the edges: S = 128, M = 256, on I²C
+abbrev pub exampleBoard : Profile
+exampleBoard = record {
+  bus = I2c;
+  longest = 256;
+  page = 64;
+  size = 128;
+  offset = 0;
+  hardware = 1;
+  compatible = 1;
+  actual = 1;
+  version = 1;
+  serial = [];
+}
+
+-- a request to an address, after what a call left
+unfoldable pub sentTo : ℕ → Called → ℕ → List ℕ → Called
+sentTo address c code arguments = received exampleBoard (c .state) address (request I2c address code arguments) (c .flash) 256
+
+-- n bytes b written at 0
+abbrev pub filled : Called → ℕ → ℕ → Called
+filled c n b = sentTo 8 c 0x06 (0 ∷ 0 ∷ replicate n b)
+
+-- one byte b written at an address below 256
+abbrev pub byteAt : Called → ℕ → ℕ → Called
+byteAt c address b = sentTo 8 c 0x06 (0 ∷ address ∷ b ∷ [])
+
+-- a finalize
+abbrev pub closed : Called → Called
+closed c = sentTo 8 c 0x07 []
+
+-- the fresh board, flash all 0xFF
+abbrev pub blank : Called
+blank = nothing fresh (replicate 128 0xFF)
+
+-- E10's write, and its finalize
+unfoldable pub seventy : Called
+seventy = filled blank 70 0x11
+
+unfoldable pub uploaded : Called
+uploaded = closed seventy
+
+-- the flash filled to its end
+unfoldable pub full : Called
+full = filled blank 128 0x11
+
+-- the erase count that a call left
+abbrev pub countAfter : Called → ℕ
+countAfter c = c .state .upload .count
+
+unfoldable pub rows : List Row
+rows =
+    -- E1 I²C version request
+    row 1 (request I2c 0 0x00 []) (0x00 ∷ 0xF3 ∷ [])
+    -- E2 its reply
+    ∷ row 2 (reply I2c 0 0 (2 ∷ 2 ∷ [])) (0x00 ∷ 0x02 ∷ 0x02 ∷ 0x02 ∷ 0x23 ∷ [])
+    -- E3 finalize
+    ∷ row 3 (request I2c 0 0x07 []) (0x07 ∷ 0xE6 ∷ [])
+    -- E4 start
+    ∷ row 4 (request I2c 0 0x05 []) (0x05 ∷ 0xE8 ∷ [])
+    -- E5 INVALID_CRC reply
+    ∷ row 5 (reply I2c 0 4 []) (0x04 ∷ 0x00 ∷ 0x83 ∷ [])
+    -- E6 plain OK
+    ∷ row 6 (reply I2c 0 0 []) (0x00 ∷ 0x00 ∷ 0xD7 ∷ [])
+    -- E7 RS485 version to 8
+    ∷ row 7 (request Rs485 8 0x00 []) (0x08 ∷ 0x00 ∷ 0x06 ∷ 0x70 ∷ [])
+    -- E8 reset
+    ∷ row 8 (resetFrame Rs485) (0x00 ∷ 0x46 ∷ 0x80 ∷ 0x42 ∷ [])
+    -- E9 reset address
+    ∷ row 9 (resetAddressFrame Rs485) (0x00 ∷ 0x44 ∷ 0x01 ∷ 0x83 ∷ [])
+    -- E10: write 70 bytes 0x11 at 0, count 1, w = 6
+    ∷ row 10 (countAfter seventy ∷ length (seventy .state .upload .waiting) ∷ []) (1 ∷ 6 ∷ [])
+    -- finalize, count 2 (I²C reply 00 02 00 02 09)
+    ∷ row 10 (countAfter uploaded ∷ uploaded .reply) (2 ∷ 0x00 ∷ 0x02 ∷ 0x00 ∷ 0x02 ∷ 0x09 ∷ [])
+    -- bytes 70 to 127 still 0xFF
+    ∷ row 10 (drop 70 (uploaded .flash)) (replicate 58 0xFF)
+    -- E11: the same upload again, count 0
+    ∷ row 11 (countAfter (closed (filled uploaded 70 0x11)) ∷ []) (0 ∷ [])
+    -- E12: after E10's finalize, byte 0x22 at 70, finalize, count 3
+    ∷ row 12 (countAfter (closed (byteAt uploaded 70 0x22)) ∷ []) (3 ∷ [])
+    -- edges: write ending at S, and at S + 1
+    ∷ row 13 (full .state .upload .next ∷ full .reply) (128 ∷ 0x00 ∷ 0x00 ∷ 0xD7 ∷ [])
+    ∷ row 14 (filled blank 129 0x11 .reply) (0x05 ∷ 0x00 ∷ 0x96 ∷ [])
+    -- empty write at next = S
+    ∷ row 15 (sentTo 8 full 0x06 (0 ∷ 128 ∷ []) .reply) (0x00 ∷ 0x00 ∷ 0xD7 ∷ [])
+    -- frame of M bytes, which S is too short for, and of M + 1 bytes
+    ∷ row 16 (filled blank 252 0x11 .reply) (0x05 ∷ 0x00 ∷ 0x96 ∷ [])
+    ∷ row 17 (filled blank 253 0x11 .reply) (0x03 ∷ 0x00 ∷ 0xE8 ∷ [])
+    -- finalize twice
+    ∷ row 18 (closed uploaded .reply) (0x00 ∷ 0x02 ∷ 0x00 ∷ 0x02 ∷ 0x09 ∷ [])
+    -- the default range ends at 15
+    ∷ row 19 (sentTo 15 blank 0x07 [] .number ∷ sentTo 16 blank 0x07 [] .number ∷ []) (0 ∷ 1 ∷ [])
+    ∷ []

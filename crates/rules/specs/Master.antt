@@ -1,0 +1,214 @@
+-- Document 01, "The master": the request encoder, the reply decoder, a reply that is read twice, and the version rule.
+-- Total over any bus, M, request, reply and output length.
+use mathlib.Core.Bool.{Bool, true, false, cond, not, _&&_, _||_}
+use mathlib.Core.List.{List, [], _∷_, _++_}
+use Prim.Native.Nat.{ℕ, _+_, _-_}
+use lib.Dec.{eqb, leb, ltb}
+use lib.ListN.{length, take, drop, getD}
+use Rattle.rules.specs.declared.kinds.Bus.{Bus}
+use Rattle.rules.specs.declared.kinds.Bus.the-variants.{I2c, Rs485}
+use Rattle.rules.specs.declared.requests.Request.{Request}
+use Rattle.rules.specs.declared.requests.Request.the-variants.{Plain, SetAddress, Write, Read, ResetAddress, Reset}
+use Rattle.rules.specs.declared.requests.Encoded.{Encoded}
+use Rattle.rules.specs.declared.requests.Encoded.the-variants.{Made, FrameOutOfRange, OutputTooShort, ArgumentOutOfRange}
+use Rattle.rules.specs.declared.requests.Decoded.{Decoded}
+use Rattle.rules.specs.declared.requests.Decoded.the-variants.{Reply, NotServed, TooShort, SumWrong, OtherAddress, LengthWrong, StatusUnknown, ResultsMissing}
+use Rattle.rules.specs.declared.requests.Which.{Which}
+use Rattle.rules.specs.declared.requests.Which.the-variants.{First, Second, Neither}
+use Rattle.rules.specs.declared.requests.Version.{Version}
+use Rattle.rules.specs.declared.requests.Version.the-variants.{Known, Unknown}
+use Rattle.rules.specs.Profile.{frameInRange}
+use Rattle.rules.specs.CheckSums.{sumRight}
+use Rattle.rules.specs.Frames.{headerLength, shortestRequest, shortestReply, twoBytes, request, resetAddressFrame, resetFrame}
+use Rattle.rules.specs.Commands.{served, lengthAllowed, ok}
+
+-- the encoder
+
+-- what the encoder answers and leaves: its number, and the request's bytes (none unless the number is 0)
+pub record Encoding : Type 0 where
+  pub number : ℕ
+  pub bytes : List ℕ
+
+-- the number of each of its answers
+abbrev pub encodedNumber : Encoded → ℕ
+encodedNumber (Made k) = 0
+encodedNumber FrameOutOfRange = 2
+encodedNumber OutputTooShort = 6
+encodedNumber ArgumentOutOfRange = 7
+
+-- how many bytes of the lent output an answer says were made
+abbrev pub encodedLength : Encoded → ℕ
+encodedLength (Made k) = k
+encodedLength FrameOutOfRange = 0
+encodedLength OutputTooShort = 0
+encodedLength ArgumentOutOfRange = 0
+
+-- every served command and both general calls (these take no destination); the data bytes are a write's
+unfoldable pub requestBytes : Bus → Request → ℕ → List ℕ → List ℕ
+requestBytes bus (Plain code) destination bytes = request bus destination code []
+requestBytes bus (SetAddress address hardware) destination bytes = request bus destination 0x01 (address ∷ hardware ∷ [])
+requestBytes bus (Write address) destination bytes = request bus destination 0x06 (twoBytes address ++ bytes)
+requestBytes bus (Read address n) destination bytes = request bus destination 0x08 (twoBytes address ++ n ∷ [])
+requestBytes bus ResetAddress destination bytes = resetAddressFrame bus
+requestBytes bus Reset destination bytes = resetFrame bus
+
+-- a bus address over 255 (over 127 on I²C)
+abbrev pub addressOver : Bus → ℕ → Bool
+addressOver I2c a = ltb 127 a
+addressOver Rs485 a = ltb 255 a
+
+-- a flash address over 65,535
+abbrev pub flashAddressOver : ℕ → Bool
+flashAddressOver a = ltb 65535 a
+
+-- a command not served with n argument bytes, a request over M, a command to destination 0 or over the bus's addresses
+unfoldable pub commandWrong : Bus → ℕ → ℕ → ℕ → ℕ → Bool
+commandWrong bus M destination code n =
+    not (served code && lengthAllowed code n)
+    || (ltb M (shortestRequest bus + n)
+    || (eqb destination 0 || addressOver bus destination))
+
+-- 7: request argument out of range, with n data bytes
+unfoldable pub argumentWrong : Bus → ℕ → Request → ℕ → ℕ → Bool
+argumentWrong bus M (Plain code) destination n = commandWrong bus M destination code 0
+argumentWrong bus M (SetAddress address hardware) destination n = commandWrong bus M destination 0x01 2 || (addressOver bus address || ltb 255 hardware)
+argumentWrong bus M (Write address) destination n = commandWrong bus M destination 0x06 (2 + n) || flashAddressOver address
+argumentWrong bus M (Read address asked) destination n =
+    commandWrong bus M destination 0x08 3 || (flashAddressOver address || ltb (M - shortestReply bus) asked)
+argumentWrong bus M ResetAddress destination n = false
+argumentWrong bus M Reset destination n = false
+
+-- nothing is made
+abbrev pub unmade : ℕ → Encoding
+unmade number = record { number = number; bytes = [] }
+
+-- the encoder tests 2 (M only), 7, 6
+unfoldable pub encoded : Bus → ℕ → Request → ℕ → List ℕ → ℕ → Encoding
+encoded bus M r destination bytes outputLength =
+    cond (not (frameInRange M)) (unmade 2)
+    (cond (argumentWrong bus M r destination (length bytes)) (unmade 7)
+    (cond (ltb outputLength (length (requestBytes bus r destination bytes))) (unmade 6)
+    (record { number = 0; bytes = requestBytes bus r destination bytes })))
+
+-- the decoder
+
+-- what the decoder answers: its number, the status, and where the results lie in the reply (zeros unless the number is 0)
+pub record Decoding : Type 0 where
+  pub number : ℕ
+  pub status : ℕ
+  pub start : ℕ
+  pub len : ℕ
+
+-- no result
+abbrev pub unread : ℕ → Decoding
+unread number = record { number = number; status = 0; start = 0; len = 0 }
+
+-- the number and the values of each of its answers
+abbrev pub decodedAs : Decoded → Decoding
+decodedAs (Reply status start len) = record { number = 0; status = status; start = start; len = len }
+decodedAs NotServed = unread 7
+decodedAs TooShort = unread 8
+decodedAs SumWrong = unread 9
+decodedAs OtherAddress = unread 10
+decodedAs LengthWrong = unread 11
+decodedAs StatusUnknown = unread 12
+decodedAs ResultsMissing = unread 13
+
+-- Fixed parts: version 2, hardware info 5, revision 1, finalize 2, M 2, read its length asked, all others 0
+unfoldable pub fixedPart : ℕ → ℕ → ℕ
+fixedPart code asked =
+    cond (eqb code 0x00) 2
+    (cond (eqb code 0x03) 5
+    (cond (eqb code 0x07) 2
+    (cond (eqb code 0x08) asked
+    (cond (eqb code 0x09) 1
+    (cond (eqb code 0x0c) 2 0)))))
+
+-- OK with fewer results than the command's fixed part
+abbrev pub resultsMissing : ℕ → ℕ → ℕ → ℕ → Bool
+resultsMissing code asked status n = eqb status ok && ltb n (fixedPart code asked)
+
+-- a reply of so many bytes holds n results: on I²C bytes after the CRC are ignored; on RS485 there may be none
+abbrev pub lengthRight : Bus → ℕ → ℕ → Bool
+lengthRight I2c n long = leb (n + shortestReply I2c) long
+lengthRight Rs485 n long = eqb (n + shortestReply Rs485) long
+
+-- a reply from another address; on I²C the reply holds none
+abbrev pub fromOther : Bus → ℕ → List ℕ → Bool
+fromOther I2c address reply = false
+fromOther Rs485 address reply = not (eqb (getD reply 0 0) address)
+
+-- the status and the length byte of a reply
+abbrev pub statusOf : Bus → List ℕ → ℕ
+statusOf bus reply = getD reply (headerLength bus) 0
+
+abbrev pub countOf : Bus → List ℕ → ℕ
+countOf bus reply = getD reply (headerLength bus + 1) 0
+
+-- a reply whose length byte fits it: the decoder tests 9, 10, 12, 13
+unfoldable pub opened : Bus → ℕ → ℕ → ℕ → List ℕ → Decoding
+opened bus code address asked reply =
+    cond (not (sumRight bus (take (countOf bus reply + shortestReply bus) reply))) (unread 9)
+    (cond (fromOther bus address reply) (unread 10)
+    (cond (ltb 5 (statusOf bus reply)) (unread 12)
+    (cond (resultsMissing code asked (statusOf bus reply) (countOf bus reply)) (unread 13)
+    (record { number = 0; status = statusOf bus reply; start = headerLength bus + 2; len = countOf bus reply }))))
+
+-- the decoder tests 7 (command not served), 8, 11, and then the others
+unfoldable pub decoded : Bus → ℕ → ℕ → ℕ → List ℕ → Decoding
+decoded bus code address asked reply =
+    cond (not (served code)) (unread 7)
+    (cond (ltb (length reply) (shortestReply bus)) (unread 8)
+    (cond (not (lengthRight bus (countOf bus reply) (length reply))) (unread 11)
+    (opened bus code address asked reply)))
+
+-- a reply that is read twice, on I²C, where the address is not looked at
+
+abbrev pub decodedRead : ℕ → ℕ → List ℕ → Decoding
+decodedRead code asked reply = decoded I2c code 0 asked reply
+
+-- the result bytes of a decoded reply
+abbrev pub resultsIn : Decoding → List ℕ → List ℕ
+resultsIn d reply = take (d .len) (drop (d .start) reply)
+
+-- a part of the first lent read if that one decodes, else of the second, and an empty part if neither does
+unfoldable pub resultBytes : ℕ → ℕ → List ℕ → List ℕ → List ℕ
+resultBytes code asked first second =
+    cond (eqb (decodedRead code asked first .number) 0) (resultsIn (decodedRead code asked first) first)
+    (cond (eqb (decodedRead code asked second .number) 0) (resultsIn (decodedRead code asked second) second) [])
+
+-- which case it was: read 1, read 2, or 0 for neither
+unfoldable pub whichRead : ℕ → ℕ → List ℕ → List ℕ → ℕ
+whichRead code asked first second =
+    cond (eqb (decodedRead code asked first .number) 0) 1
+    (cond (eqb (decodedRead code asked second .number) 0) 2 0)
+
+-- the number of the read that an answer names
+abbrev pub readNumber : Which → ℕ
+readNumber First = 1
+readNumber Second = 2
+readNumber Neither = 0
+
+-- the version rule
+
+-- what the version rule answers: its number, and the version that it counts as (zeros unless the number is 0)
+pub record Ruled : Type 0 where
+  pub number : ℕ
+  pub major : ℕ
+  pub minor : ℕ
+
+-- the number and the values of each of its answers
+abbrev pub ruledAs : Version → Ruled
+ruledAs (Known major minor) = record { number = 0; major = major; minor = minor }
+ruledAs Unknown = record { number = 14; major = 0; minor = 0 }
+
+-- a higher minor counts as the highest known
+abbrev pub capped : ℕ → ℕ → ℕ
+capped highest minor = cond (ltb highest minor) highest minor
+
+-- major 1 (minor 0 to 1) and 2 (minor 0 to 2) are known; any other major is 14
+unfoldable pub versionRule : ℕ → ℕ → Ruled
+versionRule major minor =
+    cond (eqb major 1) (record { number = 0; major = 1; minor = capped 1 minor })
+    (cond (eqb major 2) (record { number = 0; major = 2; minor = capped 2 minor })
+    (record { number = 14; major = 0; minor = 0 }))

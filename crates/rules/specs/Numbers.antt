@@ -1,0 +1,48 @@
+-- Document 01, "Numbers that calls answer": the number and the values of each case of an answer, and the order of 2 to 5.
+use mathlib.Core.Bool.{Bool, cond, not}
+use mathlib.Core.List.{List, _++_}
+use Prim.Native.Nat.{ℕ, _+_}
+use lib.Dec.{ltb}
+use lib.ListN.{length, drop}
+use Rattle.rules.specs.declared.kinds.Outcome.{Outcome}
+use Rattle.rules.specs.declared.kinds.Outcome.the-variants.{Reply, Nothing, ProfileOutOfRange, FlashTooShort, StateMalformed, BufferTooShort}
+use Rattle.rules.specs.Profile.{Profile, inRange}
+use Rattle.rules.specs.State.{State, wellFormed}
+
+-- the number of a board call's answer
+abbrev pub number : Outcome → ℕ
+number (Reply k) = 0
+number Nothing = 1
+number ProfileOutOfRange = 2
+number FlashTooShort = 3
+number StateMalformed = 4
+number BufferTooShort = 5
+
+-- how many bytes of the lent output an answer says were made
+abbrev pub made : Outcome → ℕ
+made (Reply k) = k
+made Nothing = 0
+made ProfileOutOfRange = 0
+made FlashTooShort = 0
+made StateMalformed = 0
+made BufferTooShort = 0
+
+-- 0 leaves the first k bytes of the lent output, its rest untouched
+abbrev pub laid : List ℕ → List ℕ → List ℕ
+laid bytes out = bytes ++ drop (length bytes) out
+
+-- 3: the lent flash of n bytes is shorter than O + S
+abbrev pub flashShort : Profile → ℕ → Bool
+flashShort p n = ltb n (p .offset + p .size)
+
+-- 5: the reply buffer of n bytes is shorter than M
+abbrev pub bufferShort : Profile → ℕ → Bool
+bufferShort p n = ltb n (p .longest)
+
+-- board calls test 2, 3, 4, 5 in that order; 0 where none of them applies
+unfoldable pub refusal : Profile → State → ℕ → ℕ → ℕ
+refusal p s flashLength bufferLength =
+    cond (not (inRange p)) 2
+    (cond (flashShort p flashLength) 3
+    (cond (not (wellFormed p s)) 4
+    (cond (bufferShort p bufferLength) 5 0)))

@@ -1,0 +1,2 @@
+-- Laws of the view that crates above cite.
+pub mod Laws

@@ -1,0 +1,12 @@
+-- `state::State::started` meets its contract: of a buffer 0 bytes are in use. Assumes nothing.
+use mathlib.Core.Path.{refl}
+use Rattle.rules.specs.State.{used}
+use Rattle.state.proofs.State.started.Statement.{statement}
+use Rattle.state.proofs.State.started.Tie as tie
+
+returns : tie.Need-returns
+unfolding used
+returns c = refl
+
+pub started-spec : {M : Type 1} → statement M
+started-spec = tie.close (tie.spec returns)

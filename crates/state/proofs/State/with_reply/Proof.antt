@@ -1,0 +1,33 @@
+-- `state::State::with_reply` meets its contract: on I²C the last reply is what `replaced` ensures, on RS485 there is none. Assumes nothing.
+use mathlib.Core.Path.{refl, _∙_}
+use borrow.Author.Needs.{needs}
+use Rattle.rules.specs.declared.kinds.Bus.the-variants.{Rs485}
+use Rattle.state.proofs.State.with_reply.Statement.{statement}
+use Rattle.state.proofs.State.with_reply.Tie as tie
+
+enum-told : tie.Need-enum-told
+enum-told c = search needs
+
+replaced-requires : tie.Need-replaced-requires
+replaced-requires c κs = search needs
+
+enum-told-2 : tie.Need-enum-told-2
+enum-told-2 c = search needs
+
+without-reply-requires : tie.Need-without-reply-requires
+without-reply-requires c κs = search needs
+
+returns : tie.Need-returns
+returns c =
+    let i2c = c .before .before .enum-told .given .1 in
+    rw (i2c, c .replaced .ensures)
+
+returns-2 : tie.Need-returns-2
+returns-2 c =
+    let rs485 = c .before .enum-told2 .given .1 in
+    c .without-reply .ensures Rs485 ∙ rw rs485
+
+pub with-reply-spec : {M : Type 1} → statement M
+with-reply-spec =
+    tie.close
+    (tie.spec enum-told replaced-requires enum-told-2 without-reply-requires returns returns-2)

@@ -1,0 +1,2 @@
+-- What a state of the code says.
+pub mod View

@@ -1,0 +1,47 @@
+-- What a state says: bytes beyond w and beyond the last reply's length mean nothing and are left out. States with equal views count as equal.
+use mathlib.Core.Path.{_≡_}
+use mathlib.Core.Bool.{false}
+use mathlib.Core.List.{List}
+use Prim.Native.Nat.{ℕ}
+use lib.ListN.{replicate}
+use Rattle.rules.specs.declared.kinds.Address.{Address}
+use Rattle.rules.specs.declared.kinds.Address.the-variants.{DefaultRange}
+use Rattle.rules.specs.State as rules
+use Rattle.rules.specs.State.{used}
+use Rattle.state.specs.declared.Upload.{Upload}
+use Rattle.state.specs.declared.Last.{Last}
+use Rattle.state.specs.declared.State.{State}
+
+-- the sizes that the state's own type has: `State::PAGE` and `State::LARGEST_FRAME`
+abbrev pub page : ℕ
+page = 64
+
+abbrev pub largestFrame : ℕ
+largestFrame = 256
+
+abbrev pub uploadOf : Upload → rules.Upload
+uploadOf u = record { next = u .next; waiting = used (u .held) (u .waiting); count = u .count }
+
+abbrev pub lastOf : Last → List ℕ
+lastOf l = used (l .len) (l .bytes)
+
+abbrev pub view : State → rules.State
+view s = record { address = s .address; running = s .running; upload = uploadOf (s .upload); last = lastOf (s .last) }
+
+-- Fresh, down to the bytes that mean nothing: default range, not running, all the rest zero
+abbrev pub zeroed : State
+zeroed = record {
+  address = DefaultRange;
+  running = false;
+  upload = record { next = 0; held = 0; count = 0; waiting = replicate page 0 };
+  last = record { len = 0; bytes = replicate largestFrame 0 };
+}
+
+-- what is promised of the fresh board: what it says, and each field of it
+pub record Fresh (s : State) : Type 0 where
+  pub viewed : view s ≡ rules.fresh
+  pub all : s ≡ zeroed
+
+-- the state with another address
+abbrev pub withAddress : rules.State → Address → rules.State
+withAddress s a = record { address = a; running = s .running; upload = s .upload; last = s .last }

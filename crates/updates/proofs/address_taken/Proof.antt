@@ -1,0 +1,19 @@
+-- `updates::address_taken` meets its contract, by the bus. Assumes nothing.
+use borrow.Author.Needs.{needs}
+use Rattle.updates.proofs.address_taken.Statement.{statement}
+use Rattle.updates.proofs.address_taken.Tie as tie
+
+enum-told : tie.Need-enum-told
+enum-told c = search needs
+
+enum-told-2 : tie.Need-enum-told-2
+enum-told-2 c = search needs
+
+returns : tie.Need-returns
+returns c = rw (c .enum-told .given .1)
+
+returns-2 : tie.Need-returns-2
+returns-2 c = search needs
+
+pub address-taken-spec : {M : Type 1} → statement M
+address-taken-spec = tie.close (tie.spec enum-told enum-told-2 returns returns-2)

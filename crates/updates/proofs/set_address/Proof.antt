@@ -1,0 +1,60 @@
+-- `updates::set_address` meets its contract: its test is the definition's, and the address is taken over. Assumes nothing.
+use Rattle.rules.specs.Commands.{setAddress}
+use borrow.Author.Tests.{eq-eqb, ne-eqb, not-true, not-false}
+use borrow.Author.Needs.{needs}
+use Rattle.updates.proofs.set_address.Statement.{statement}
+use Rattle.updates.proofs.set_address.Tie as tie
+
+shared-slice-read-type-heard : tie.Need-shared-slice-read-type-heard
+shared-slice-read-type-heard c = search needs
+
+type-heard-requires : tie.Need-type-heard-requires
+type-heard-requires c κs = search needs
+
+returns : tie.Need-returns
+unfolding setAddress
+returns c = λ d. rw (← c .before .type-heard .ensures, not-true (c .before .type-heard .result) (c .if1 .taken))
+
+shared-slice-read-address-taken : tie.Need-shared-slice-read-address-taken
+shared-slice-read-address-taken c = search needs
+
+address-taken-requires : tie.Need-address-taken-requires
+address-taken-requires c κs = search needs
+
+with-address-requires : tie.Need-with-address-requires
+with-address-requires c κs = search needs
+
+slice-aggregate-say : tie.Need-slice-aggregate-say
+slice-aggregate-say c = search needs
+
+say-requires : tie.Need-say-requires
+say-requires c κs = search needs
+
+same-length : tie.Need-same-length
+same-length c = search needs
+
+returns-2 : tie.Need-returns-2
+unfolding setAddress
+returns-2 c =
+    let w = c .before .before .before .before .before in
+    let a = w .before in
+    let e = a .before .before in
+    let h = e .before in
+    λ d.
+    rw (← h .type-heard .ensures, not-false (h .type-heard .result) (e .if1 .left), ← a .address-taken .ensures)
+    (rw (w .with-address .ensures) at (c .before .before .say .ensures d))
+
+pub set-address-spec : {M : Type 1} → statement M
+set-address-spec =
+    tie.close
+    (tie.spec
+    shared-slice-read-type-heard
+    type-heard-requires
+    returns
+    shared-slice-read-address-taken
+    address-taken-requires
+    with-address-requires
+    slice-aggregate-say
+    say-requires
+    same-length
+    returns-2)

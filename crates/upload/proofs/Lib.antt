@@ -1,0 +1,3 @@
+-- Laws of an upload: a part of accepted bytes, and a commit, by what the code holds.
+pub mod Laws
+pub mod Turns

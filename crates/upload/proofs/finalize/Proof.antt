@@ -1,0 +1,81 @@
+-- `upload::finalize` meets its contract: nothing waiting leaves all as it is, else the waiting bytes lie in one page and are committed there.
+-- By `finalized-none`, `finalized-some` and `committed-settled`. Assumes nothing.
+use mathlib.Core.Path.{_≡_, refl, sym, _∙_}
+use native.Mathlib.Omega.{arith}
+use lib.ListN.{length, length-take}
+use borrow.Author.Needs.{needs}
+use Rattle.rules.proofs.UploadLaws.{sub-mod}
+use Rattle.state.specs.View.{page}
+use Rattle.profile.specs.View.{profileOf}
+use Rattle.upload.proofs.Laws.{ready-bounds, fitting, committed-settled, finalized-none, finalized-some, finalized-formed}
+use Rattle.upload.proofs.finalize.Statement.{statement}
+use Rattle.upload.proofs.finalize.Tie as tie
+
+returns : tie.Need-returns
+returns c =
+    let start = c .before .before in
+    let u = start .args .u in (
+      sym (finalized-none (profileOf (start .args .p)) u (start .args .flash .now) (c .if1 .taken)),
+      record { formed = start .pre .formed; next-is = refl },
+    )
+
+sub-settle : tie.Need-sub-settle
+sub-settle c =
+    let b = ready-bounds (c .before .before .before .before .pre) in
+    omega arith
+
+add-settle : tie.Need-add-settle
+add-settle c =
+    let b = ready-bounds (c .before .before .before .before .pre) in
+    omega arith
+
+array-share-prefix-waiting : tie.Need-array-share-prefix-waiting
+array-share-prefix-waiting c =
+    let start = c .before .before .before .before in
+    let b = ready-bounds (start .pre) in
+    let h : length (start .args .u .waiting) ≡ page = search needs in
+    omega arith
+
+slice-aggregate-settle : tie.Need-slice-aggregate-settle
+slice-aggregate-settle c =
+    let start = c .before .before .before .before .before in
+    let b = ready-bounds (start .pre) in
+    let h : length (start .args .u .waiting) ≡ page = search needs in
+    simp length-take (omega arith)
+
+settle-requires : tie.Need-settle-requires
+settle-requires c κs =
+    let start = c .before .before .before .before .before in
+    let b = ready-bounds (start .pre) in
+    let h : length (start .args .u .waiting) ≡ page = search needs in
+    simp length-take (omega arith)
+
+same-length : tie.Need-same-length
+same-length c = search needs
+
+returns-2 : tie.Need-returns-2
+returns-2 c =
+    let start = c .before .before .before .before .before .before .before .before in
+    let p = start .args .p in
+    let u = start .args .u in
+    let d = start .args .flash .now in
+    let b = ready-bounds (start .pre) in
+    let some = c .before .before .before .before .before .before .if1 .left in
+    let place = sub-mod page (u .next) (u .held) (omega arith) (b .held .held-most) in
+    let lies = fitting p u d (b .profile) (start .pre .flash-holds) (b .held .next-most) (omega arith) (omega arith) in
+    let h : length (u .waiting) ≡ page = search needs in
+    let done = sym (finalized-some (profileOf p) u d some ∙ committed-settled p u lies (omega arith) (c .before .before .settle .ensures)) in
+    (done, finalized-formed d (start .pre) _ done)
+
+pub finalize-spec : {M : Type 1} → statement M
+finalize-spec =
+    tie.close
+    (tie.spec
+    returns
+    sub-settle
+    add-settle
+    array-share-prefix-waiting
+    slice-aggregate-settle
+    settle-requires
+    same-length
+    returns-2)

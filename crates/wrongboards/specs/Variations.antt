@@ -1,0 +1,97 @@
+-- The board of the rules with one part exchanged: the judgement on a frame, the rule of a command, or the commit.
+-- With the rules' own parts it is the board of the rules (`varied_right`).
+use mathlib.Core.Path.{_≡_}
+use mathlib.Core.Bool.{Bool, cond, _&&_}
+use mathlib.Core.List.{List, [], _∷_, _++_}
+use Prim.Native.Nat.{ℕ, _+_, _%_}
+use lib.Dec.{eqb}
+use lib.ListN.{length, drop}
+use Rattle.rules.specs.declared.kinds.Verdict.{Verdict}
+use Rattle.rules.specs.Profile.{Profile}
+use Rattle.rules.specs.State.{State, Upload, fresh}
+use Rattle.rules.specs.Numbers.{refusal}
+use Rattle.rules.specs.Frames.{destination, verdict, commandOf, argumentsOf, numberAt, twoBytes}
+use Rattle.rules.specs.Commit.{Progress, committed}
+use Rattle.rules.specs.Commands.{Says, Acted, lengthAllowed, ok, invalidArguments, told, withUpload, accepted, begun, obeyed}
+use Rattle.rules.specs.Board.{Called, finishedCall, judged, refused}
+use Rattle.ledger.specs.Calls.{Call, Frame, Read, Reaction, Board, reaction, calls}
+use Rattle.demands.specs.Past.{isCommand}
+
+-- what a frame by its verdict does, as the rules' `judged`
+abbrev pub Judgement : Type 0
+Judgement = Profile → State → ℕ → List ℕ → List ℕ → Verdict → Called
+
+-- what a command does, as the rules' `obeyed`
+abbrev pub Rule : Type 0
+Rule = Profile → State → ℕ → List ℕ → List ℕ → Acted
+
+-- how waiting bytes reach flash, as the rules' `committed`
+abbrev pub Commit : Type 0
+Commit = Profile → Progress → Progress
+
+-- what the board does with a call, by another judgement on frames
+abbrev pub judging : Judgement → Profile → State → List ℕ → Call → Reaction State
+judging judge p s d (Frame a f n) =
+    reaction (cond (eqb (refusal p s (length d) n) 0)
+    (judge p s a f d (verdict (p .bus) (p .longest) (s .running) (s .address) a f))
+    (refused (refusal p s (length d) n) s d))
+judging judge p s d (Read a n) = calls p s d (Read a n)
+
+-- a board that keeps a state and shows the state's count
+abbrev pub boardBy : (Profile → State → List ℕ → Call → Reaction State) → Board
+boardBy call = record { Kept = State; fresh = fresh; count = λ s. s .upload .count; call = call }
+
+-- another rule for the well-framed commands
+abbrev pub obeying : Rule → Judgement
+obeying rule p s a f d v =
+    cond (isCommand v)
+    (finishedCall (p .bus) (destination (p .bus) a f) (rule p s (commandOf (p .bus) f) (argumentsOf (p .bus) f) d))
+    (judged p s a f d v)
+
+-- another commit, in the commands that commit
+module _ (commit : Commit) where
+  abbrev pub takenBy : Profile → Progress → ℕ → Progress
+  takenBy p g b =
+      let u : Upload = g .upload in
+      let more : Progress = record { upload = record { next = u .next + 1; waiting = u .waiting ++ (b ∷ []); count = u .count }; flash = g .flash } in
+      cond (eqb ((u .next + 1) % p .page) 0) (commit p more) more
+
+  abbrev pub takenAllBy : Profile → Progress → List ℕ → Progress
+  takenAllBy p g [] = g
+  takenAllBy p g (b ∷ bs) = takenAllBy p (takenBy p g b) bs
+
+  abbrev pub finalizedBy : Profile → Progress → Progress
+  finalizedBy p g = cond (eqb (length (g .upload .waiting)) 0) g (commit p g)
+
+  abbrev pub writtenBy : Profile → State → List ℕ → List ℕ → Acted
+  writtenBy p s args d =
+      let address : ℕ = numberAt args 0 in
+      let bytes : List ℕ = drop 2 args in
+      let g : Progress = takenAllBy p (record { upload = begun address (s .upload); flash = d }) bytes in
+      cond (accepted (p .size) (s .upload .next) address (length bytes))
+      (record { response = Says ok []; state = withUpload s (g .upload); flash = g .flash })
+      (told s d invalidArguments [])
+
+  abbrev pub finishedBy : Profile → State → List ℕ → Acted
+  finishedBy p s d =
+      let g : Progress = finalizedBy p (record { upload = s .upload; flash = d }) in
+      record { response = Says ok (twoBytes (g .upload .count)); state = withUpload s (g .upload); flash = g .flash }
+
+  abbrev pub committing : Rule
+  committing p s code args d =
+      cond (eqb code 0x06 && lengthAllowed code (length args)) (writtenBy p s args d)
+      (cond (eqb code 0x07 && lengthAllowed code (length args)) (finishedBy p s d)
+      (obeyed p s code args d))
+
+-- the board of the rules with another rule, and with another commit
+abbrev pub ruledBy : Rule → Board
+ruledBy rule = boardBy (judging (obeying rule))
+
+abbrev pub committedBy : Commit → Board
+committedBy commit = ruledBy (committing commit)
+
+-- with the rules' own parts nothing is varied
+pub record VariedRight : Type 0 where
+  pub by-judgement : (p : Profile) (s : State) (d : List ℕ) (c : Call) → judging judged p s d c ≡ calls p s d c
+  pub by-rule : (p : Profile) (s : State) (d : List ℕ) (c : Call) → judging (obeying obeyed) p s d c ≡ calls p s d c
+  pub by-commit : (p : Profile) (s : State) (d : List ℕ) (c : Call) → judging (obeying (committing committed)) p s d c ≡ calls p s d c

@@ -1,0 +1,123 @@
+-- Boards that are right but for one error, each with the sentence of document 01 that names it.
+-- Which demand refuses each: src/lib.rt. On which calls: proofs/.
+use mathlib.Core.Bool.{Bool, true, false, cond, not, _&&_}
+use mathlib.Core.List.{List, [], _∷_, _++_}
+use Prim.Native.Nat.{ℕ, suc, _+_, _-_, _%_}
+use lib.Dec.{eqb, ltb}
+use lib.ListN.{length, take, replicate}
+use Rattle.rules.specs.declared.kinds.Verdict.{Verdict}
+use Rattle.rules.specs.declared.kinds.Verdict.the-variants.{Reset, Running, ResetAddress, Short, Long, WrongSum, Foreign, OtherGeneral, BadTransfer, BadSum, Command}
+use Rattle.rules.specs.Profile.{Profile}
+use Rattle.rules.specs.State.{State, Upload}
+use Rattle.rules.specs.Frames.{destination, numberAt, twoBytes}
+use Rattle.rules.specs.Commit.{Progress, committed, finalized}
+use Rattle.rules.specs.Commands.{Says, Acted, ok, invalidArguments, invalidCrc, told, withUpload, started, obeyed}
+use Rattle.rules.specs.Board.{finishedCall, judged}
+use Rattle.ledger.specs.Calls.{Call, Reaction, Board, calls}
+use Rattle.wrongboards.specs.Variations.{Judgement, Rule, Commit, judging, boardBy, ruledBy, committedBy}
+
+-- the state, running or not
+abbrev pub withRunning : State → Bool → State
+withRunning s running = record { address = s .address; running = running; upload = s .upload; last = s .last }
+
+-- Document 01, "Programs to try"
+
+-- "a board that refuses all writes"
+abbrev pub refusesWrites : Board
+refusesWrites = ruledBy (λ p s code args d. cond (eqb code 0x06) (told s d invalidArguments []) (obeyed p s code args d))
+
+-- "or says OK to all": a write that the rules refuse gets OK, and nothing is done
+abbrev pub okToAll : Board
+okToAll =
+    ruledBy (λ p s code args d.
+    let a : Acted = obeyed p s code args d in
+    cond (eqb code 0x06) (record { response = Says ok []; state = a .state; flash = a .flash }) a)
+
+-- a board that calls itself running after its first write, and so answers nothing more
+abbrev pub runsAfterWrite : Board
+runsAfterWrite =
+    ruledBy (λ p s code args d.
+    let a : Acted = obeyed p s code args d in
+    cond (eqb code 0x06) (record { response = a .response; state = withRunning (a .state) true; flash = a .flash }) a)
+
+-- "one that keeps flash as it was"
+abbrev pub keepsFlash : Board
+keepsFlash = committedBy (λ p g. record { upload = committed p g .upload; flash = g .flash })
+
+-- "one that commits only the first page and then just replies OK"
+abbrev pub firstPageOnly : Board
+firstPageOnly =
+    committedBy (λ p g.
+    cond (ltb (g .upload .next - length (g .upload .waiting)) (p .page)) (committed p g)
+    (record { upload = record { next = g .upload .next; waiting = []; count = g .upload .count }; flash = g .flash }))
+
+-- "one that invents its erase count": finalize says one more than was counted
+abbrev pub inventsCount : Board
+inventsCount =
+    ruledBy (λ p s code args d.
+    let a : Acted = obeyed p s code args d in
+    cond (eqb code 0x07 && eqb (length args) 0)
+    (record { response = Says ok (twoBytes (suc (a .state .upload .count))); state = a .state; flash = a .flash })
+    a)
+
+-- "A fixed reply": these bytes, whatever is asked
+abbrev pub fixedReply : List ℕ → Board
+fixedReply bytes =
+    boardBy (λ p s d c.
+    let r : Reaction State = calls p s d c in
+    record { number = r .number; reply = cond (eqb (r .number) 0) bytes []; state = r .state; flash = r .flash })
+
+-- Document 01, "Errors our trainees have coded"
+
+-- "Padding the last page with 0xFF": the waiting bytes are filled up to the end of their page
+abbrev pub padded : ℕ → Upload → Upload
+padded page u = record {
+  next = u .next + (page - u .next % page) % page;
+  waiting = u .waiting ++ replicate ((page - u .next % page) % page) 0xFF;
+  count = u .count;
+}
+
+abbrev pub padsLastPage : Board
+padsLastPage =
+    committedBy (λ p g.
+    let h : Progress = committed p (record { upload = padded (p .page) (g .upload); flash = g .flash }) in
+    record { upload = record { next = g .upload .next; waiting = []; count = h .upload .count }; flash = h .flash })
+
+-- "Taking half of a write that runs past S": the bytes before S are taken, and then the write is refused
+abbrev pub takesHalf : Board
+takesHalf =
+    ruledBy (λ p s code args d.
+    let half : Acted = obeyed p s code (take (2 + (p .size - numberAt args 0)) args) d in
+    cond (eqb code 0x06 && ltb (p .size) (numberAt args 0 + (length args - 2)))
+    (record { response = Says invalidArguments []; state = half .state; flash = half .flash })
+    (obeyed p s code args d))
+
+-- "Sending INVALID_CRC on RS485"
+abbrev pub complains : Judgement
+complains p s a f d Reset = judged p s a f d Reset
+complains p s a f d Running = judged p s a f d Running
+complains p s a f d ResetAddress = judged p s a f d ResetAddress
+complains p s a f d Short = judged p s a f d Short
+complains p s a f d Long = judged p s a f d Long
+complains p s a f d WrongSum = finishedCall (p .bus) (destination (p .bus) a f) (told s d invalidCrc [])
+complains p s a f d Foreign = judged p s a f d Foreign
+complains p s a f d OtherGeneral = judged p s a f d OtherGeneral
+complains p s a f d BadTransfer = judged p s a f d BadTransfer
+complains p s a f d BadSum = judged p s a f d BadSum
+complains p s a f d Command = judged p s a f d Command
+
+abbrev pub invalidCrcSent : Board
+invalidCrcSent = boardBy (judging complains)
+
+-- "Counting a commit that changed nothing"
+abbrev pub countsUnchanged : Board
+countsUnchanged =
+    committedBy (λ p g.
+    record { upload = record { next = g .upload .next; waiting = []; count = suc (g .upload .count) }; flash = committed p g .flash })
+
+-- "Finalizing on start"
+abbrev pub finalizesOnStart : Board
+finalizesOnStart =
+    ruledBy (λ p s code args d.
+    let g : Progress = finalized p (record { upload = s .upload; flash = d }) in
+    cond (eqb code 0x05 && eqb (length args) 0) (started (withUpload s (g .upload)) (g .flash)) (obeyed p s code args d))

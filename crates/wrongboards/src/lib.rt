@@ -1,0 +1,72 @@
+// Boards that are right but for one error, and the demand that refuses each. The functions do nothing.
+ghost use mathlib.Core.List.{List};
+ghost use Prim.Native.Nat.{ℕ};
+ghost use Rattle.ledger.specs.Claim.{Demand3};
+ghost use Rattle.demands.specs.Acceptance.{Demand2};
+ghost use Rattle.wrongboards.specs.Variations.{VariedRight};
+ghost use Rattle.wrongboards.specs.WrongBoards.{refusesWrites, okToAll, runsAfterWrite, keepsFlash, firstPageOnly, inventsCount, fixedReply, padsLastPage, takesHalf, invalidCrcSent, countsUnchanged, finalizesOnStart};
+
+// The variations that the wrong boards are made by are right themselves: with the rules' own parts they are the board of the rules.
+pub fn varied_right()
+    ensures { λ _. ⌜ VariedRight ⌝ }
+{}
+
+// A board that refuses all writes: demand 2, every write in order and in range is accepted.
+pub fn refuses_writes()
+    ensures { λ _. ⌜ (Demand2 refusesWrites → ⊥) ⌝ }
+{}
+
+// A board that says OK to all writes: demand 2, the others are refused by name.
+pub fn ok_to_all()
+    ensures { λ _. ⌜ (Demand2 okToAll → ⊥) ⌝ }
+{}
+
+// A board that calls itself running after its first write: demand 2, the second write in order is accepted too.
+pub fn runs_after_write()
+    ensures { λ _. ⌜ (Demand2 runsAfterWrite → ⊥) ⌝ }
+{}
+
+// A board that keeps flash as it was: demand 3, the finished upload's bytes stand in flash.
+pub fn keeps_flash()
+    ensures { λ _. ⌜ (Demand3 keepsFlash → ⊥) ⌝ }
+{}
+
+// A board that commits only the first page and then just replies OK: the same, with more than 64 bytes.
+pub fn first_page_only()
+    ensures { λ _. ⌜ (Demand3 firstPageOnly → ⊥) ⌝ }
+{}
+
+// A board that invents its erase count: demand 3, the reply's count is the book's.
+pub fn invents_count()
+    ensures { λ _. ⌜ (Demand3 inventsCount → ⊥) ⌝ }
+{}
+
+// A board with a fixed reply, whatever its bytes: demand 2, version and read ask for two different ones.
+pub fn fixed_reply()
+    ensures { λ _. ⌜ ((bytes : List ℕ) → Demand2 (fixedReply bytes) → ⊥) ⌝ }
+{}
+
+// Padding the last page with 0xFF: demand 3, every other byte is as just before.
+pub fn pads_last_page()
+    ensures { λ _. ⌜ (Demand3 padsLastPage → ⊥) ⌝ }
+{}
+
+// Taking half of a write that runs past S: demand 2, a refused write leaves flash as it was; and demand 3, flash equals the book's copy.
+pub fn takes_half()
+    ensures { λ _. ⌜ (Demand2 takesHalf → ⊥) × (Demand3 takesHalf → ⊥) ⌝ }
+{}
+
+// Sending INVALID_CRC on RS485: demand 2, a damaged frame gets no reply there.
+pub fn invalid_crc_sent()
+    ensures { λ _. ⌜ (Demand2 invalidCrcSent → ⊥) ⌝ }
+{}
+
+// Counting a commit that changed nothing: demand 3, the same upload again counts 0.
+pub fn counts_unchanged()
+    ensures { λ _. ⌜ (Demand3 countsUnchanged → ⊥) ⌝ }
+{}
+
+// Finalizing on start: demand 3, flash equals the book's copy.
+pub fn finalizes_on_start()
+    ensures { λ _. ⌜ (Demand3 finalizesOnStart → ⊥) ⌝ }
+{}

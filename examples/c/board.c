@@ -1,0 +1,67 @@
+/* The example board; see board.h. */
+#include "board.h"
+
+#include <stdio.h>
+#include <stdlib.h>
+#include <string.h>
+
+static void put32(uint8_t *out, uint32_t value)
+{
+    for (int i = 0; i < 4; i++)
+        out[i] = (uint8_t)(value >> 8 * i);
+}
+
+/* Numbers from 2 on mean that the firmware itself is wrong: its profile, its buffers or its state. */
+static void stop_if_refused(uint32_t number)
+{
+    if (number > CHILDBUS_NOTHING) {
+        fprintf(stderr, "board: refused with number %u\n", (unsigned)number);
+        exit(1);
+    }
+}
+
+void board_power_up(struct board *board, uint32_t bus)
+{
+    static const uint8_t serial[] = {'L', 'A', 'M', 'P', '0', '1'};
+    uint8_t *p = board->profile;
+
+    memset(p, 0, CHILDBUS_PROFILE_BYTES);
+    p[CHILDBUS_PROFILE_BUS] = (uint8_t)bus;
+    p[CHILDBUS_PROFILE_HARDWARE] = 7;
+    p[CHILDBUS_PROFILE_COMPATIBLE] = 1;
+    p[CHILDBUS_PROFILE_ACTUAL] = 2;
+    p[CHILDBUS_PROFILE_BOOTLOADER] = 3;
+    p[CHILDBUS_PROFILE_SERIAL_LENGTH] = sizeof serial;
+    put32(p + CHILDBUS_PROFILE_LONGEST, BOARD_LONGEST);
+    put32(p + CHILDBUS_PROFILE_SIZE, BOARD_SIZE);
+    put32(p + CHILDBUS_PROFILE_OFFSET, BOARD_OFFSET);
+    memcpy(p + CHILDBUS_PROFILE_SERIAL, serial, sizeof serial);
+
+    memset(board->flash, 0xb0, BOARD_OFFSET); /* the bootloader */
+    memset(board->flash + BOARD_OFFSET, 0xff, BOARD_SIZE);
+    stop_if_refused(childbus_fresh(board->state, sizeof board->state));
+}
+
+size_t board_frame(struct board *board, uint32_t address, const uint8_t *frame, size_t len)
+{
+    size_t made;
+    uint32_t number = childbus_receive(board->profile, sizeof board->profile, board->state, sizeof board->state, address,
+                                       frame, len, board->flash, sizeof board->flash, board->reply, sizeof board->reply,
+                                       &made);
+    stop_if_refused(number);
+    return board->profile[CHILDBUS_PROFILE_BUS] == CHILDBUS_RS485 ? made : 0;
+}
+
+size_t board_read(struct board *board, uint32_t address)
+{
+    size_t made;
+    uint32_t number = childbus_read(board->profile, sizeof board->profile, board->state, sizeof board->state, address,
+                                    board->flash, sizeof board->flash, board->reply, sizeof board->reply, &made);
+    stop_if_refused(number);
+    return made;
+}
+
+int board_running(const struct board *board)
+{
+    return board->state[CHILDBUS_STATE_RUNNING];
+}

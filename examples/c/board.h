@@ -1,0 +1,30 @@
+/* An example board over childbus.h: it owns profile, state and flash, and has one function for each event on its bus. */
+#ifndef BOARD_H
+#define BOARD_H
+
+#include <childbus.h>
+
+/* The bootloader has the first 1,024 bytes of flash, the application the 4,096 behind it. */
+enum { BOARD_OFFSET = 1024, BOARD_SIZE = 4096, BOARD_LONGEST = 64 };
+
+struct board {
+    uint8_t profile[CHILDBUS_PROFILE_BYTES];
+    uint8_t state[CHILDBUS_STATE_BYTES];
+    uint8_t flash[BOARD_OFFSET + BOARD_SIZE];
+    uint8_t reply[BOARD_LONGEST];
+};
+
+/* Power-up on a bus (CHILDBUS_I2C or CHILDBUS_RS485), with empty flash behind the bootloader. */
+void board_power_up(struct board *board, uint32_t bus);
+
+/* A frame has arrived: on RS485 at a silence (address: 0), on I2C at the stop of a write to address. Answers how many bytes
+ * of board->reply are to be sent now; none on I2C, where the master reads. */
+size_t board_frame(struct board *board, uint32_t address, const uint8_t *frame, size_t len);
+
+/* I2C: the master reads at address. Answers how many bytes of board->reply it gets. */
+size_t board_read(struct board *board, uint32_t address);
+
+/* The application has been started. */
+int board_running(const struct board *board);
+
+#endif

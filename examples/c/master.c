@@ -1,0 +1,180 @@
+/*
+ * An example master over childbus.h, and the program: on each bus it finds the board, gives it an address, uploads an image,
+ * finalizes, reads it back, compares, uploads once more, and starts the application. Master and board share nothing but
+ * the bytes on the bus, which are `exchange` below. Ends with status 0 if all went as it should.
+ */
+#include <stdbool.h>
+#include <stdio.h>
+#include <stdlib.h>
+#include <string.h>
+
+#include "board.h"
+
+enum { ADDRESS = 9, IMAGE = 1000 };
+
+struct master {
+    struct board *board; /* the other end of the bus */
+    uint32_t bus;
+    uint32_t longest; /* M */
+    uint8_t reply[CHILDBUS_FRAME_MAX];
+};
+
+static void fail(const char *what)
+{
+    fprintf(stderr, "master: %s\n", what);
+    exit(1);
+}
+
+/* The bus: a request goes out, a reply comes back in master->reply. Answers its length; 0 is silence. */
+static size_t exchange(struct master *master, uint32_t address, const uint8_t *request, size_t len)
+{
+    size_t made = board_frame(master->board, address, request, len);
+    if (master->bus == CHILDBUS_I2C)
+        made = board_read(master->board, address);
+    memcpy(master->reply, master->board->reply, made);
+    return made;
+}
+
+/* Sends a command. Answers its status, and the results where results points. Silence and bad replies end the program. */
+static uint32_t command(struct master *master, uint32_t code, uint32_t address, uint32_t a, uint32_t b,
+                        const uint8_t *data, size_t data_len, const uint8_t **results, size_t *results_len)
+{
+    uint8_t request[CHILDBUS_FRAME_MAX];
+    size_t len, start;
+    uint32_t status;
+    /* on I2C the reply to set address is read at the new address */
+    uint32_t answers_at = master->bus == CHILDBUS_I2C && code == CHILDBUS_CMD_SET_ADDRESS ? a : address;
+
+    if (childbus_encode(master->bus, master->longest, code, address, a, b, data, data_len, request, sizeof request, &len) != CHILDBUS_MADE)
+        fail("the request can't be made");
+    size_t got = exchange(master, address, request, len);
+    if (answers_at != address) {
+        got = board_read(master->board, answers_at);
+        memcpy(master->reply, master->board->reply, got);
+    }
+    if (got == 0)
+        fail("no reply");
+    if (childbus_decode(master->bus, code, address, b, master->reply, got, &status, &start, results_len) != CHILDBUS_MADE)
+        fail("the reply can't be decoded");
+    *results = master->reply + start;
+    return status;
+}
+
+/* A command without data that must be OK. */
+static const uint8_t *ask(struct master *master, uint32_t code, uint32_t address, uint32_t a, uint32_t b, size_t *len)
+{
+    static const uint8_t none[1];
+    const uint8_t *results;
+    if (command(master, code, address, a, b, none, 0, &results, len) != CHILDBUS_OK)
+        fail("the board refused a command");
+    return results;
+}
+
+/* Writes the image in frames as long as they can be, and finalizes. Answers the erase count. */
+static unsigned upload(struct master *master, const uint8_t *image, size_t size)
+{
+    size_t most = master->longest - (master->bus == CHILDBUS_I2C ? 4 : 6);
+    size_t frames = 0, len;
+    for (size_t at = 0; at < size; frames++) {
+        const uint8_t *results;
+        size_t n = size - at < most ? size - at : most;
+        if (command(master, CHILDBUS_CMD_WRITE, ADDRESS, (uint32_t)at, 0, image + at, n, &results, &len) != CHILDBUS_OK)
+            fail("the board refused a write");
+        at += n;
+    }
+    const uint8_t *count = ask(master, CHILDBUS_CMD_FINALIZE, ADDRESS, 0, 0, &len);
+    unsigned erased = (unsigned)count[0] << 8 | count[1];
+    printf("  uploaded %zu bytes in %zu frames, finalized: %u pages erased\n", size, frames, erased);
+    return erased;
+}
+
+static void read_back(struct master *master, const uint8_t *image, size_t size)
+{
+    size_t most = master->longest - (master->bus == CHILDBUS_I2C ? 3 : 5);
+    for (size_t at = 0; at < size;) {
+        size_t n = size - at < most ? size - at : most, len;
+        const uint8_t *results = ask(master, CHILDBUS_CMD_READ, ADDRESS, (uint32_t)at, (uint32_t)n, &len);
+        if (len != n || memcmp(results, image + at, n) != 0)
+            fail("the flash differs from the image");
+        at += n;
+    }
+    printf("  read back %zu bytes: equal to the image\n", size);
+}
+
+static void session(struct board *board, uint32_t bus, const uint8_t *image)
+{
+    struct master master = {.board = board, .bus = bus, .longest = CHILDBUS_FRAME_MIN};
+    uint8_t request[CHILDBUS_FRAME_MAX];
+    uint32_t major, minor;
+    size_t len;
+
+    printf("%s\n", bus == CHILDBUS_I2C ? "I2C" : "RS485");
+    board_power_up(board, bus);
+
+    /* all boards to the start, then speak to the default range */
+    if (childbus_general(bus, master.longest, 1, request, sizeof request, &len) != CHILDBUS_MADE ||
+        exchange(&master, CHILDBUS_GENERAL_CALL, request, len) != 0)
+        fail("a general call was answered");
+    const uint8_t *r = ask(&master, CHILDBUS_CMD_VERSION, CHILDBUS_DEFAULT_FIRST, 0, 0, &len);
+    if (childbus_version(r[0], r[1], &major, &minor) != CHILDBUS_MADE)
+        fail("the board's version is not known");
+    printf("  protocol version %u.%u\n", (unsigned)major, (unsigned)minor);
+    r = ask(&master, CHILDBUS_CMD_HARDWARE_INFO, CHILDBUS_DEFAULT_FIRST, 0, 0, &len);
+    uint8_t type = r[0];
+    printf("  hardware type %u, compatible revision %u, bootloader %u, %u bytes of flash\n", r[0], r[1], r[2],
+           (unsigned)r[3] << 8 | r[4]);
+    r = ask(&master, CHILDBUS_CMD_LONGEST, CHILDBUS_DEFAULT_FIRST, 0, 0, &len);
+    master.longest = (uint32_t)r[0] << 8 | r[1];
+    printf("  longest frame %u\n", (unsigned)master.longest);
+    ask(&master, CHILDBUS_CMD_SET_ADDRESS, CHILDBUS_DEFAULT_FIRST, ADDRESS, type, &len);
+    printf("  address set to %u\n", (unsigned)ADDRESS);
+    r = ask(&master, CHILDBUS_CMD_SERIAL, ADDRESS, 0, 0, &len);
+    printf("  serial %.*s\n", (int)len, (const char *)r);
+
+    if (upload(&master, image, IMAGE) != (IMAGE + 63) / 64)
+        fail("another erase count was expected");
+    read_back(&master, image, IMAGE);
+    if (upload(&master, image, IMAGE) != 0)
+        fail("a repeated upload erased a page");
+
+    /* a damaged frame: INVALID_CRC on I2C, silence on RS485 */
+    static const uint8_t none[1];
+    if (childbus_encode(bus, master.longest, CHILDBUS_CMD_VERSION, ADDRESS, 0, 0, none, 0, request, sizeof request, &len) != CHILDBUS_MADE)
+        fail("the request can't be made");
+    request[len - 1] ^= 1;
+    size_t got = exchange(&master, ADDRESS, request, len);
+    if (bus == CHILDBUS_I2C ? got != 3 || master.reply[0] != CHILDBUS_INVALID_CRC : got != 0)
+        fail("a damaged frame was taken");
+    printf("  damaged frame: %s\n", bus == CHILDBUS_I2C ? "status INVALID_CRC" : "no reply");
+
+    /* start has no reply */
+    if (childbus_encode(bus, master.longest, CHILDBUS_CMD_START, ADDRESS, 0, 0, none, 0, request, sizeof request, &len) != CHILDBUS_MADE ||
+        exchange(&master, ADDRESS, request, len) != 0 || !board_running(board))
+        fail("the application was not started");
+    printf("  application started\n");
+
+    for (size_t i = 0; i < BOARD_OFFSET; i++)
+        if (board->flash[i] != 0xb0)
+            fail("the bootloader was changed");
+    for (size_t i = BOARD_OFFSET + IMAGE; i < sizeof board->flash; i++)
+        if (board->flash[i] != 0xff)
+            fail("flash behind the image was changed");
+    printf("  flash outside the image: unchanged\n");
+}
+
+int main(void)
+{
+    /* from the heap, so that valgrind sees every byte that is used before it is written, or past an end */
+    struct board *board = malloc(sizeof *board);
+    uint8_t *image = malloc(IMAGE);
+    if (board == NULL || image == NULL)
+        fail("no memory");
+    for (size_t i = 0; i < IMAGE; i++)
+        image[i] = (uint8_t)(i * 7 + i / 64);
+    session(board, CHILDBUS_I2C, image);
+    session(board, CHILDBUS_RS485, image);
+    free(image);
+    free(board);
+    printf("done\n");
+    return 0;
+}

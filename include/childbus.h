@@ -1,0 +1,267 @@
+/*
+ * childbus.h - the Childbus bootloader protocol 2.2, board and master, on I2C and RS485.
+ *
+ * Every function is total: any numbers and any bytes, in buffers of any length, get an answer. No function allocates,
+ * keeps anything between calls, or calls back. All that a board remembers is in the state buffer and in the flash.
+ *
+ * Buffers
+ *   A buffer is a pointer and a length in bytes. Pointers are not NULL, not even with length 0. The buffers of one call
+ *   and the places of its single results do not overlap. Only buffers without const are written. Profile and state
+ *   have a layout of their own, below; their numbers of four bytes are little-endian. Alignment does not matter.
+ *
+ * Answers
+ *   Every function answers one of the numbers below, except childbus_two_reads. Refused means a number of 2 or above:
+ *   then every buffer is as it was before the call, and single results are 0.
+ *
+ * Not here: time (t3.5, the 80 ms, clock stretching), pins, the application. The caller finds the ends of frames.
+ */
+#ifndef CHILDBUS_H
+#define CHILDBUS_H
+
+#include <stddef.h>
+#include <stdint.h>
+
+#if SIZE_MAX < 0xffffffffffffffffu
+#error "childbus.h: the library takes and gives lengths of 64 bits"
+#endif
+
+#ifdef __cplusplus
+extern "C" {
+#endif
+
+/* Numbers that calls answer. */
+#define CHILDBUS_MADE            0u  /* reply or request made: the first *made bytes of the output, its rest untouched.
+                                        Decoder: decoded. Version rule: known. childbus_fresh: done */
+#define CHILDBUS_NOTHING         1u  /* nothing to send: the output is untouched; the state may have changed */
+#define CHILDBUS_PROFILE         2u  /* profile out of range */
+#define CHILDBUS_FLASH_SHORT     3u  /* flash shorter than O + S */
+#define CHILDBUS_STATE_MALFORMED 4u  /* malformed state */
+#define CHILDBUS_OUT_SHORT       5u  /* reply buffer shorter than M */
+#define CHILDBUS_NO_ROOM         6u  /* the request doesn't fit the output */
+#define CHILDBUS_ARGUMENT        7u  /* request argument out of range, or a command that isn't served */
+#define CHILDBUS_REPLY_SHORT     8u  /* reply shorter than 3 (I2C) or 5 (RS485) */
+#define CHILDBUS_REPLY_CRC       9u  /* reply CRC wrong */
+#define CHILDBUS_REPLY_ADDRESS  10u  /* reply from another address */
+#define CHILDBUS_REPLY_LENGTH   11u  /* the length byte doesn't fit the reply */
+#define CHILDBUS_REPLY_STATUS   12u  /* status above 5 */
+#define CHILDBUS_REPLY_RESULTS  13u  /* OK with fewer results than the command's fixed part */
+#define CHILDBUS_VERSION        14u  /* version not known */
+
+/* Statuses: the byte with which a reply begins (on RS485 after the address). This board has results with OK only. */
+#define CHILDBUS_OK                    0u
+#define CHILDBUS_COMMAND_FAILED        1u  /* never sent by this board; the decoder takes it */
+#define CHILDBUS_COMMAND_NOT_SUPPORTED 2u  /* unknown command, one that isn't served, or serial with no serial */
+#define CHILDBUS_INVALID_TRANSFER      3u  /* I2C: a write shorter than 2 or longer than M */
+#define CHILDBUS_INVALID_CRC           4u  /* I2C: wrong CRC (RS485: no reply) */
+#define CHILDBUS_INVALID_ARGUMENTS     5u  /* wrong argument length, or arguments that the command's own rule refuses */
+
+/* Commands. 0x02, 0x0a, 0x0b, 0x0d, 0x0e and all above are not served. */
+#define CHILDBUS_CMD_VERSION       0x00u  /* results: major, minor */
+#define CHILDBUS_CMD_SET_ADDRESS   0x01u  /* new address, hardware type (0: any) */
+#define CHILDBUS_CMD_HARDWARE_INFO 0x03u  /* results: type, compatible revision, bootloader version, S in two bytes */
+#define CHILDBUS_CMD_SERIAL        0x04u  /* results: the serial */
+#define CHILDBUS_CMD_START         0x05u  /* starts the application: no reply */
+#define CHILDBUS_CMD_WRITE         0x06u  /* flash address in two bytes, data */
+#define CHILDBUS_CMD_FINALIZE      0x07u  /* results: the erase count in two bytes */
+#define CHILDBUS_CMD_READ          0x08u  /* flash address in two bytes, length; results: that many bytes */
+#define CHILDBUS_CMD_REVISION      0x09u  /* results: the actual revision */
+#define CHILDBUS_CMD_LONGEST       0x0cu  /* results: M in two bytes */
+
+#define CHILDBUS_I2C   0u
+#define CHILDBUS_RS485 1u
+
+/* The general call's address, and the range in which a board without an address of its own listens. */
+#define CHILDBUS_GENERAL_CALL  0u
+#define CHILDBUS_DEFAULT_FIRST 8u
+#define CHILDBUS_DEFAULT_LAST 15u
+
+#define CHILDBUS_PAGE          64u     /* bytes of a flash page */
+#define CHILDBUS_FRAME_MIN     32u     /* smallest M */
+#define CHILDBUS_FRAME_MAX     256u    /* largest M */
+#define CHILDBUS_FLASH_MAX     65472u  /* largest S, and largest O */
+#define CHILDBUS_SERIAL_MAX    16u
+
+/*
+ * The profile: what the board is built as. The caller fills it; no call changes it.
+ *
+ *    0      bus: 0 I2C, 1 RS485
+ *    1      hardware type, 1 to 255
+ *    2      compatible revision
+ *    3      actual revision
+ *    4      bootloader version
+ *    5      length of the serial, 0 to 16
+ *    6..7   ignored
+ *    8..11  M, longest frame, 32 to 256. On RS485 it counts address to CRC, on I2C it leaves out the address
+ *   12..15  S, working flash, a multiple of 64 from 64 to 65472
+ *   16..19  O, its offset in the lent flash, a multiple of 64 from 0 to 65472
+ *   20..35  serial; bytes beyond its length are ignored
+ *
+ * A buffer shorter than CHILDBUS_PROFILE_BYTES, or a field out of its range, is number 2. Bytes past 36 are ignored.
+ */
+#define CHILDBUS_PROFILE_BYTES 36u
+#define CHILDBUS_PROFILE_BUS            0
+#define CHILDBUS_PROFILE_HARDWARE       1
+#define CHILDBUS_PROFILE_COMPATIBLE     2
+#define CHILDBUS_PROFILE_ACTUAL         3
+#define CHILDBUS_PROFILE_BOOTLOADER     4
+#define CHILDBUS_PROFILE_SERIAL_LENGTH  5
+#define CHILDBUS_PROFILE_LONGEST        8
+#define CHILDBUS_PROFILE_SIZE          12
+#define CHILDBUS_PROFILE_OFFSET        16
+#define CHILDBUS_PROFILE_SERIAL        20
+
+/*
+ * The state: what the board remembers between calls. childbus_fresh makes it, childbus_receive changes it; the caller
+ * keeps it and writes nothing into it.
+ *
+ *    0       address kind: 0 default range (8 to 15), 1 own address
+ *    1       own address; means something only with kind 1
+ *    2       running: 0 or 1
+ *    3       ignored
+ *    4..7    next: where the next write of the upload goes
+ *    8..11   w: how many bytes wait to be committed
+ *   12..15   erase count
+ *   16..19   length of the last reply (I2C; 0 means none)
+ *   20..83   waiting bytes, the first w of them
+ *   84..339  last reply, as many bytes as its length says
+ *
+ * Number 4 is given for a buffer shorter than CHILDBUS_STATE_BYTES, an address kind or a running byte above 1,
+ * next > S, w > next mod 64, count > next - w, a last reply longer than M, and a last reply on RS485. Bytes past 340
+ * are never touched. A refused call leaves every byte as it was. After 0 and 1 the bytes that mean nothing (3, the own
+ * address with kind 0, waiting bytes beyond w, reply bytes beyond its length) may hold anything.
+ */
+#define CHILDBUS_STATE_BYTES 340u
+#define CHILDBUS_STATE_ADDRESS_KIND   0
+#define CHILDBUS_STATE_OWN_ADDRESS    1
+#define CHILDBUS_STATE_RUNNING        2
+#define CHILDBUS_STATE_NEXT           4
+#define CHILDBUS_STATE_WAITING_COUNT  8
+#define CHILDBUS_STATE_ERASE_COUNT   12
+#define CHILDBUS_STATE_REPLY_LENGTH  16
+#define CHILDBUS_STATE_WAITING       20
+#define CHILDBUS_STATE_REPLY         84
+
+/*
+ * The fresh board: default range, not running, all the rest zero. Call it once at power-up.
+ *
+ *   state, state_len  its first 340 bytes become the fresh state
+ *
+ * Answers 0; 4 if the buffer is shorter than 340.
+ */
+uint32_t childbus_fresh(uint8_t *state, size_t state_len);
+
+/*
+ * The board: one received frame. On I2C a write by the master, without its address byte; on RS485 the bytes between
+ * two silences, address to CRC.
+ *
+ *   profile, profile_len  the profile
+ *   state, state_len      the state, changed in place
+ *   address               I2C: the 7-bit address of the write; 128 and above are foreign, 0 is the general call.
+ *                         RS485: not looked at
+ *   frame, frame_len      the frame, of any length
+ *   flash, flash_len      the lent flash, at least O + S bytes. Only O .. O + S - 1 can change
+ *   out, out_len          room for the reply, at least M bytes, also where nothing is sent
+ *   made                  the reply's length with 0, else 0
+ *
+ * Answers 0: on RS485 send the first *made bytes of out; on I2C the master reads them (childbus_read). 1: send nothing.
+ * 2, 3, 4, 5: refused, tested in this order. While the state is running every frame answers 1 and changes nothing, but
+ * for the general-call reset.
+ */
+uint32_t childbus_receive(const uint8_t *profile, size_t profile_len, uint8_t *state, size_t state_len,
+                          uint32_t address, const uint8_t *frame, size_t frame_len, uint8_t *flash, size_t flash_len,
+                          uint8_t *out, size_t out_len, size_t *made);
+
+/*
+ * The board: an I2C read at an address. It answers the last reply unchanged, any number of times.
+ *
+ *   profile, state, flash, out  as for childbus_receive; state and flash are only read
+ *   address                     the 7-bit address of the read
+ *   made                        the reply's length with 0, else 0
+ *
+ * Answers 0: the first *made bytes of out go to the master. 1: no last reply, a foreign address, address 0, running, or
+ * an RS485 profile. 2, 3, 4, 5: refused, tested in this order.
+ */
+uint32_t childbus_read(const uint8_t *profile, size_t profile_len, const uint8_t *state, size_t state_len,
+                       uint32_t address, const uint8_t *flash, size_t flash_len, uint8_t *out, size_t out_len,
+                       size_t *made);
+
+/*
+ * The master: a request with its CRC. On I2C the destination is not in the request: the caller addresses the write.
+ *
+ *   bus               0 I2C, 1 RS485
+ *   longest           the board's M
+ *   code              the command
+ *   destination       the board's address: 1 to 127 on I2C, 1 to 255 on RS485
+ *   a, b              set address: a new address (to 127 on I2C, to 255 on RS485), b hardware type (to 255)
+ *                     write: a flash address (to 65535)
+ *                     read: a flash address (to 65535), b length (to M - 3 on I2C, to M - 5 on RS485)
+ *                     not looked at where nothing is said
+ *   data, data_len    write: the data, at most M - 4 bytes on I2C, M - 6 on RS485. Other commands: not looked at
+ *   out, out_len      room for the request
+ *   made              the request's length with 0, else 0
+ *
+ * Answers 0: the request is the first *made bytes of out. 2: bus above 1, or M out of range. 7: a command that isn't
+ * served, destination 0 or out of range, an argument out of range, a request over M. 6: the request is longer than
+ * out_len. Tested in the order 2, 7, 6.
+ */
+uint32_t childbus_encode(uint32_t bus, uint32_t longest, uint32_t code, uint32_t destination, uint32_t a, uint32_t b,
+                         const uint8_t *data, size_t data_len, uint8_t *out, size_t out_len, size_t *made);
+
+/*
+ * The master: a general call, to all boards at address 0; no board replies.
+ *
+ *   bus, longest   as for childbus_encode
+ *   reset          0: reset address (default range again, upload kept). Anything else: reset (the fresh state)
+ *   out, out_len   room for the request: 1 byte on I2C, 4 on RS485
+ *   made           the request's length with 0, else 0
+ *
+ * Answers 0, 2 or 6, tested in the order 2, 6.
+ */
+uint32_t childbus_general(uint32_t bus, uint32_t longest, uint32_t reset, uint8_t *out, size_t out_len, size_t *made);
+
+/*
+ * The master: a reply taken apart. The results stay in the reply: *len bytes from reply[*start] on.
+ *
+ *   bus                0 I2C, 1 RS485; any other is number 7
+ *   code               the command that was sent
+ *   address            RS485: the address it was sent to. I2C: not looked at
+ *   asked              read: the length asked for. Other commands: not looked at
+ *   reply, reply_len   the reply. On I2C bytes after its CRC are ignored, on RS485 there may be none
+ *   status             0 to 5
+ *   start, len         the results. Results beside a status other than OK, and more than the fixed part, are handed out
+ *
+ * Fixed parts: version 2, hardware info 5, revision 1, finalize 2, M 2, read the length asked, all others 0.
+ * Answers 0, or 7, 8, 11, 9, 10, 12, 13, tested in this order; then status, start and len are 0.
+ */
+uint32_t childbus_decode(uint32_t bus, uint32_t code, uint32_t address, uint32_t asked, const uint8_t *reply,
+                         size_t reply_len, uint32_t *status, size_t *start, size_t *len);
+
+/*
+ * The master: one reply on I2C, read twice. Decodes means that childbus_decode answers 0, whatever the status.
+ *
+ *   code, asked          as for childbus_decode
+ *   first, first_len     the first read
+ *   second, second_len   the second read
+ *   start, len           the results: *len bytes from *start on, in the read that the answer names; both 0 with answer 0
+ *
+ * Answers 1: the first read decodes. 2: the first doesn't, the second does. 0: neither does. These are no numbers of
+ * the table above.
+ */
+uint32_t childbus_two_reads(uint32_t code, uint32_t asked, const uint8_t *first, size_t first_len,
+                            const uint8_t *second, size_t second_len, size_t *start, size_t *len);
+
+/*
+ * The version rule: major 1 (minor 0 to 1) and 2 (minor 0 to 2) are known; a higher minor counts as the highest known.
+ *
+ *   major, minor               as the board answered to CHILDBUS_CMD_VERSION
+ *   known_major, known_minor   the version it counts as; 0 and 0 with answer 14
+ *
+ * Answers 0; 14 for any other major.
+ */
+uint32_t childbus_version(uint32_t major, uint32_t minor, uint32_t *known_major, uint32_t *known_minor);
+
+#ifdef __cplusplus
+}
+#endif
+
+#endif

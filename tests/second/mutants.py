@@ -1,0 +1,357 @@
+#!/usr/bin/env python3
+"""Single changes of meaning in the rules; each must be noticed.
+
+Changes to board, model, master and sums run on the stored fixed cases: the
+output must differ from fixed.expected. Changes to the ledger run the check of
+board against ledger: it must fail. A change whose text is not found exactly
+once, or that does not build, is an error.
+"""
+import os
+import queue
+import shutil
+import subprocess
+import sys
+import tempfile
+from concurrent.futures import ThreadPoolExecutor
+
+HERE = os.path.dirname(os.path.abspath(__file__))
+RULES = ["model", "sums", "board", "master", "script", "book", "check", "rng", "total"]
+SECONDS = 60
+WORKERS = 2
+
+ANSWER_MAIN = """#![allow(dead_code)]
+mod board; mod master; mod model; mod script; mod sums;
+use std::io::{Read, Write};
+fn main() {
+    let mut text = Vec::new();
+    std::io::stdin().read_to_end(&mut text).unwrap();
+    let (output, errors) = script::answer_all(&text);
+    std::io::stdout().write_all(output.as_bytes()).unwrap();
+    std::process::exit(if errors.is_empty() { 0 } else { 2 });
+}
+"""
+CHECK_MAIN = """#![allow(dead_code)]
+mod board; mod book; mod check; mod master; mod model; mod rng; mod sums; mod total;
+fn main() {
+    if let Err(message) = check::all(3000, 3) {
+        println!("{message}");
+        std::process::exit(1);
+    }
+}
+"""
+
+# (file, name, old text, new text)
+MUTANTS = [
+    # check sums
+    ("sums", "CRC-8 polynomial", "sum ^= 0x07;", "sum ^= 0x31;"),
+    ("sums", "CRC-8 start", "let mut sum: u8 = 0xff;", "let mut sum: u8 = 0x00;"),
+    ("sums", "CRC-16 polynomial", "sum ^= 0xa001;", "sum ^= 0x8408;"),
+    ("sums", "CRC-16 start", "let mut sum: u16 = 0xffff;", "let mut sum: u16 = 0;"),
+    ("sums", "CRC-16 second byte not tested",
+     "tail[0] == (sum & 0xff) as u8 && tail[1] == (sum >> 8) as u8", "tail[0] == (sum & 0xff) as u8"),
+    ("sums", "CRC-16 first byte not tested",
+     "tail[0] == (sum & 0xff) as u8 && tail[1] == (sum >> 8) as u8", "tail[1] == (sum >> 8) as u8"),
+    # profile, flash, state, room
+    ("model", "M from 31", "LEAST_M: u64 = 32", "LEAST_M: u64 = 31"),
+    ("model", "M from 33", "LEAST_M: u64 = 32", "LEAST_M: u64 = 33"),
+    ("model", "M to 257", "MOST_M: u64 = 256", "MOST_M: u64 = 257"),
+    ("model", "M to 255", "MOST_M: u64 = 256", "MOST_M: u64 = 255"),
+    ("model", "S to 65536", "MOST_S: u64 = 65_472", "MOST_S: u64 = 65_536"),
+    ("model", "S to 65408", "MOST_S: u64 = 65_472", "MOST_S: u64 = 65_408"),
+    ("model", "S from 0", "s % PAGE != 0 || s < PAGE || s > MOST_S", "s % PAGE != 0 || s > MOST_S"),
+    ("model", "S any number", "s % PAGE != 0 || s < PAGE || s > MOST_S", "s < PAGE || s > MOST_S"),
+    ("model", "O any number", "o % PAGE != 0 || o > MOST_O", "o > MOST_O"),
+    ("model", "O to 65536", "MOST_O: u64 = 65_472", "MOST_O: u64 = 65_536"),
+    ("model", "hardware type 0 taken", "sizes || p.hardware == 0 ||", "sizes ||"),
+    ("model", "serial to 17", "MOST_SERIAL: usize = 16", "MOST_SERIAL: usize = 17"),
+    ("model", "serial to 15", "MOST_SERIAL: usize = 16", "MOST_SERIAL: usize = 15"),
+    ("model", "flash one longer than needed", "(flash_len as u64) < u64", "(flash_len as u64) <= u64"),
+    ("model", "next at S malformed", "if next > u64::from(p.s)", "if next >= u64::from(p.s)"),
+    ("model", "w one higher", "if w > next % PAGE", "if w > next % PAGE + 1"),
+    ("model", "w only below a page", "if w > next % PAGE", "if w >= PAGE || w > next"),
+    ("model", "count up to next", "count > next - w", "count > next"),
+    ("model", "count below next - w", "count > next - w", "count > 0 && count >= next - w"),
+    ("model", "last reply of M malformed", "s.reply_len > p.m", "s.reply_len >= p.m"),
+    ("model", "last reply to 256", "s.reply_len > p.m", "s.reply_len > 256"),
+    ("model", "last reply on RS485 taken", "p.bus == Bus::Rs485 && s.reply_len > 0", "false"),
+    ("model", "room of M refused", "(room as u64) < u64", "(room as u64) <= u64"),
+    ("model", "room of 32 is enough", "(room as u64) < u64::from(p.m)", "room < 32"),
+    ("model", "3 before 2",
+     "    if profile_out_of_range(p) {\n        return Some(2);\n    }\n    if flash_too_short(p, flash_len) {\n        return Some(3);\n    }",
+     "    if flash_too_short(p, flash_len) {\n        return Some(3);\n    }\n    if profile_out_of_range(p) {\n        return Some(2);\n    }"),
+    ("model", "5 before 4",
+     "    if state_malformed(p, s) {\n        return Some(4);\n    }\n    if (room as u64) < u64::from(p.m) {\n        return Some(5);\n    }",
+     "    if (room as u64) < u64::from(p.m) {\n        return Some(5);\n    }\n    if state_malformed(p, s) {\n        return Some(4);\n    }"),
+    ("model", "write without address served", "(true, 2, 254), // 0x06", "(true, 1, 254), // 0x06"),
+    ("model", "0x0a served", "(false, 0, 0),  // 0x0a", "(true, 0, 0),  // 0x0a"),
+    ("model", "read with two arguments", "(true, 3, 3),   // 0x08", "(true, 3, 4),   // 0x08"),
+    ("model", "0x0c not served", "(true, 0, 0),   // 0x0c", "(false, 0, 0),   // 0x0c"),
+    # frames and addresses
+    ("board", "default range to 16", "(8..=15)", "(8..=16)"),
+    ("board", "default range from 9", "(8..=15)", "(9..=15)"),
+    ("board", "I2C addresses of 128 heard", "address < 128 && hears", "hears"),
+    ("board", "own address 0 heard", "address == own && address != 0", "address == own"),
+    ("board", "I2C frame of one byte", "frame.len() < 2 ||", "frame.is_empty() ||"),
+    ("board", "I2C frame of M + 1", "frame.len() < 2 || frame.len() > p.m as usize",
+     "frame.len() < 2 || frame.len() > p.m as usize + 1"),
+    ("board", "RS485 frame of M refused", "frame.len() < 4 || frame.len() > p.m as usize",
+     "frame.len() < 4 || frame.len() >= p.m as usize"),
+    ("board", "RS485 frame of M + 1", "frame.len() < 4 || frame.len() > p.m as usize",
+     "frame.len() < 4 || frame.len() > p.m as usize + 1"),
+    ("board", "RS485 frame of three bytes", "frame.len() < 4 ||", "frame.len() < 3 ||"),
+    ("board", "INVALID_CRC on RS485",
+     "    if !crc16_right(frame) || !hears(s, frame[0]) {\n        return Verdict::Ignored;",
+     "    if hears(s, frame[0]) && !crc16_right(frame) {\n        return Verdict::BadCrc;\n    }\n    if !hears(s, frame[0]) {\n        return Verdict::Ignored;"),
+    ("board", "CRC before length on I2C",
+     "    if frame.len() < 2 || frame.len() > p.m as usize {\n        return Verdict::BadTransfer;\n    }\n    if !crc8_right(frame) {\n        return Verdict::BadCrc;\n    }",
+     "    if !crc8_right(frame) {\n        return Verdict::BadCrc;\n    }\n    if frame.len() < 2 || frame.len() > p.m as usize {\n        return Verdict::BadTransfer;\n    }"),
+    ("board", "status of a bad transfer", "status(INVALID_TRANSFER)", "status(INVALID_ARGUMENTS)"),
+    ("board", "RS485 reply from the new address", "reply.push(frame.first().copied().unwrap_or(0));",
+     "reply.push(match frame { [_, 1, new, 7, ..] => *new, _ => frame[0] });"),
+    ("board", "reply keeps no last reply on I2C", "    s.reply_len = reply.len() as u32;",
+     "    if !reply.is_empty() { s.reply_len = reply.len() as u32; }"),
+    ("board", "length of a last reply in one byte", "    s.reply_len = reply.len() as u32;",
+     "    s.reply_len = u32::from(reply.len() as u8);"),
+    ("board", "last reply kept on RS485", "    if p.bus == Bus::I2c {\n        keep(s, &reply);\n    }", "    keep(s, &reply);"),
+    ("board", "read while running", "p.bus == Bus::Rs485 || s.running || !hears_i2c", "p.bus == Bus::Rs485 || !hears_i2c"),
+    ("board", "read at any address", "s.running || !hears_i2c(s, address)", "s.running"),
+    # general calls
+    ("board", "reset not heard while running",
+     "    if general == Some(6) {\n        return Verdict::Reset;\n    }\n    if s.running {\n        return Verdict::Ignored;\n    }",
+     "    if s.running {\n        return Verdict::Ignored;\n    }\n    if general == Some(6) {\n        return Verdict::Reset;\n    }"),
+    ("board", "reset address heard while running",
+     "    if s.running {\n        return Verdict::Ignored;\n    }\n    if general == Some(4) {\n        return Verdict::ResetAddress;\n    }",
+     "    if general == Some(4) {\n        return Verdict::ResetAddress;\n    }\n    if s.running {\n        return Verdict::Ignored;\n    }"),
+    ("board", "reset keeps own address", "            *s = State::fresh();",
+     "            let own = s.own;\n            *s = State::fresh();\n            s.own = own;"),
+    ("board", "reset keeps the last reply", "            *s = State::fresh();",
+     "            let kept = (s.reply_len, s.reply);\n            *s = State::fresh();\n            (s.reply_len, s.reply) = kept;"),
+    ("board", "reset address drops waiting bytes", "            s.own = Own::DefaultRange;",
+     "            s.own = Own::DefaultRange;\n            s.w = 0;"),
+    ("board", "reset address keeps the last reply", "            s.own = Own::DefaultRange;\n            s.reply_len = 0;",
+     "            s.own = Own::DefaultRange;"),
+    ("board", "I2C reset with more bytes", "(Bus::I2c, [0x06]) if", "(Bus::I2c, [0x06, ..]) if"),
+    ("board", "RS485 reset without check sum", "(Bus::Rs485, [0, 0x46, _, _]) if crc16_right(frame)", "(Bus::Rs485, [0, 0x46, _, _])"),
+    ("board", "RS485 reset at any length", "[0, 0x46, _, _]", "[0, 0x46, ..]"),
+    # commands
+    ("board", "version 2.1", "ok(vec![2, 2])", "ok(vec![2, 1])"),
+    ("board", "length before served",
+     "    let Some((fewest, most)) = served(u32::from(code)) else {\n        return status(NOT_SUPPORTED);\n    };",
+     "    let Some((fewest, most)) = served(u32::from(code)) else {\n        return status(if args.is_empty() { NOT_SUPPORTED } else { INVALID_ARGUMENTS });\n    };"),
+    ("board", "too many arguments taken", "args.len() < fewest || args.len() > most", "args.len() < fewest"),
+    ("board", "set address of a foreign type answers", "        return Outcome::Nothing;\n    }\n    let taken", "        return status(INVALID_ARGUMENTS);\n    }\n    let taken"),
+    ("board", "type 0 is foreign", "hardware != p.hardware && hardware != 0", "hardware != p.hardware"),
+    ("board", "top bit kept on I2C", "address & 0x7f", "address"),
+    ("board", "top bit dropped on RS485", "        Bus::Rs485 => address,\n    };\n    s.own", "        Bus::Rs485 => address & 0x7f,\n    };\n    s.own"),
+    ("board", "compatible and actual swapped", "ok(vec![p.actual])", "ok(vec![p.compatible])"),
+    ("board", "version and revision swapped", "vec![p.hardware, p.compatible, p.version]", "vec![p.hardware, p.version, p.compatible]"),
+    ("board", "little-endian results", "vec![(number >> 8) as u8, number as u8]", "vec![number as u8, (number >> 8) as u8]"),
+    ("board", "empty serial OK", "    if p.serial.is_empty() {\n        return status(NOT_SUPPORTED);\n    }\n", ""),
+    ("board", "start keeps waiting bytes", "    s.running = true;\n    s.w = 0;", "    s.running = true;"),
+    ("board", "finalize on start", "        START => start(s),", "        START => { finalize(p, s, flash); start(s) }"),
+    ("board", "start answers OK", "    Outcome::Nothing\n}\n\nfn write", "    ok(Vec::new())\n}\n\nfn write"),
+    # writes, commits, finalize, read
+    ("board", "write anywhere up to next", "address == 0 || address == u64::from(s.next)", "address <= u64::from(s.next)"),
+    ("board", "write not at 0 again", "address == 0 || address == u64::from(s.next)", "address == u64::from(s.next)"),
+    ("board", "write ending at S refused", "!in_order || end > u64::from(p.s)", "!in_order || end >= u64::from(p.s)"),
+    ("board", "half of a write past S taken", "    if !in_order || end > u64::from(p.s) {\n        return status(INVALID_ARGUMENTS);",
+     "    if in_order && end > u64::from(p.s) {\n        let room = u64::from(p.s).saturating_sub(address) as usize;\n        write(p, s, flash, address, &data[..room]);\n        return status(INVALID_ARGUMENTS);\n    }\n    if !in_order {\n        return status(INVALID_ARGUMENTS);"),
+    ("board", "refused write at 0 drops waiting bytes", "    if !in_order || end > u64::from(p.s) {",
+     "    if address == 0 {\n        s.w = 0;\n    }\n    if !in_order || end > u64::from(p.s) {"),
+    ("board", "empty write at 0 does nothing", "    if address == 0 {\n        s.next = 0;", "    if address == 0 && !data.is_empty() {\n        s.next = 0;"),
+    ("board", "count kept at 0", "        s.w = 0;\n        s.count = 0;\n    }\n    for", "        s.w = 0;\n    }\n    for"),
+    ("board", "waiting bytes kept at 0", "        s.next = 0;\n        s.w = 0;", "        s.next = 0;\n        if u64::from(s.w) >= PAGE { s.w = 0; }"),
+    ("board", "little-endian flash address", "u64::from(high) * 256 + u64::from(low)", "u64::from(low) * 256 + u64::from(high)"),
+    ("board", "commit one byte late", "    s.next += 1;\n    if u64::from(s.next) % PAGE == 0 {\n        commit(p, s, flash);\n    }",
+     "    s.next += 1;\n    if u64::from(s.next) % PAGE == 0 && s.w > 1 {\n        commit(p, s, flash);\n    }\n    s.w %= 64;"),
+    ("board", "count of unchanged commits", "        s.count += 1;\n    }\n    s.w = 0;", "    }\n    s.count += 1;\n    s.w = 0;"),
+    ("board", "last page padded with 0xFF", "    let mut page = old.to_vec();", "    let mut page = old.to_vec();\n    page[within..].fill(0xff);"),
+    ("board", "waiting bytes at the page's start", "page[within..within + s.w as usize]", "page[..s.w as usize]"),
+    ("board", "offset forgotten in commit", "p.o as usize + first - within", "first - within"),
+    ("board", "offset forgotten in read", "(u64::from(p.o) + address) as usize", "address as usize"),
+    ("board", "finalize commits nothing", "    if s.w > 0 {\n        commit(p, s, flash);\n    }\n    ok", "    ok"),
+    ("board", "finalize clears the count", "    ok(two_bytes(s.count))", "    let told = two_bytes(s.count);\n    s.count = 0;\n    ok(told)"),
+    ("board", "finalize ends the upload", "    ok(two_bytes(s.count))", "    s.next = 0;\n    ok(two_bytes(s.count))"),
+    ("board", "count in one byte", "    ok(two_bytes(s.count))", "    ok(two_bytes(s.count & 0xff))"),
+    ("board", "read to S - 1", "address + length > u64::from(p.s)", "address + length >= u64::from(p.s)"),
+    ("board", "read to S + 1", "address + length > u64::from(p.s)", "address + length > u64::from(p.s) + 1"),
+    ("board", "longest read refused", "|| length > most", "|| length >= most"),
+    ("board", "read cut at M, not refused", "|| length > most {\n        return status(INVALID_ARGUMENTS);\n    }",
+     "{\n        return status(INVALID_ARGUMENTS);\n    }\n    let length = length.min(most);"),
+    # master
+    ("master", "6 before 7",
+     "    let bytes = match request.code {", "    if out.len() < 2 {\n        return Answer::only(6);\n    }\n    let bytes = match request.code {"),
+    ("master", "general calls swapped", "RESET_CALL => general_bytes(bus, 0x06)", "RESET_CALL => general_bytes(bus, 0x04)"),
+    ("master", "destination 0 taken", "request.destination == 0 || request.destination >", "request.destination >"),
+    ("master", "I2C addresses to 128", "Bus::I2c => 127,", "Bus::I2c => 128,"),
+    ("master", "RS485 addresses to 256", "Bus::Rs485 => 255,", "Bus::Rs485 => 256,"),
+    ("master", "new address not tested", "address > most_address(bus) || hardware > 255", "hardware > 255"),
+    ("master", "type not tested", "address > most_address(bus) || hardware > 255", "address > most_address(bus)"),
+    ("master", "flash address to 65536", "address > 65_535", "address > 65_536"),
+    ("master", "request of M refused", "if frame.len() > m as usize", "if frame.len() >= m as usize"),
+    ("master", "longest read one more", "u64::from(length) + reply_frame_bytes(bus) > u64::from(m)", "u64::from(length) + reply_frame_bytes(bus) > u64::from(m) + 1"),
+    ("master", "output of the request's length refused", "bytes.len() > out.len()", "bytes.len() >= out.len()"),
+    ("master", "output compared with M", "bytes.len() > out.len()", "m as usize > out.len()"),
+    ("master", "shortest reply one more", "reply.len() < frame_bytes", "reply.len() <= frame_bytes"),
+    ("master", "I2C bytes after the CRC refused", "reply.len() >= whole", "reply.len() == whole"),
+    ("master", "RS485 bytes after the CRC taken", "reply.len() == whole", "reply.len() >= whole"),
+    ("master", "CRC before length",
+     "    if !fits {\n        return Err(11);\n    }\n    if !reply_sum_right(bus, &reply[..whole]) {\n        return Err(9);\n    }",
+     "    if !reply_sum_right(bus, &reply[..whole.min(reply.len())]) {\n        return Err(9);\n    }\n    if !fits {\n        return Err(11);\n    }"),
+    ("master", "address not tested", "if bus == Bus::Rs485 && u32::from(reply[0]) != address", "if bus == Bus::Rs485 && address > 255"),
+    ("master", "status 6 taken", "if status > 5", "if status > 6"),
+    ("master", "status 5 refused", "if status > 5", "if status >= 5"),
+    ("master", "12 before 10",
+     "    if bus == Bus::Rs485 && u32::from(reply[0]) != address {\n        return Err(10);\n    }\n    let status = reply[start - 2];\n    if status > 5 {\n        return Err(12);\n    }",
+     "    let status = reply[start - 2];\n    if status > 5 {\n        return Err(12);\n    }\n    if bus == Bus::Rs485 && u32::from(reply[0]) != address {\n        return Err(10);\n    }"),
+    ("master", "fixed part for every status", "if status == OK && (length", "if (length"),
+    ("master", "fixed part of hardware info", "HARDWARE_INFO => 5,", "HARDWARE_INFO => 4,"),
+    ("master", "fixed part of finalize", "FINALIZE => 2,", "FINALIZE => 1,"),
+    ("master", "length asked in one byte", "READ => u64::from(asked)", "READ => u64::from(asked as u8)"),
+    ("master", "only OK counts as decoded", "    if let Ok(d) = decode(Bus::I2c, code, 0, asked, first) {\n",
+     "    if let Some(d) = decode(Bus::I2c, code, 0, asked, first).ok().filter(|d| d.status == OK) {\n"),
+    ("master", "second read first",
+     "    if let Ok(d) = decode(Bus::I2c, code, 0, asked, first) {\n        return (1, &first[d.start..d.start + d.length]);\n    }\n    if let Ok(d) = decode(Bus::I2c, code, 0, asked, second) {\n        return (2, &second[d.start..d.start + d.length]);\n    }",
+     "    if let Ok(d) = decode(Bus::I2c, code, 0, asked, second) {\n        return (2, &second[d.start..d.start + d.length]);\n    }\n    if let Ok(d) = decode(Bus::I2c, code, 0, asked, first) {\n        return (1, &first[d.start..d.start + d.length]);\n    }"),
+    ("master", "version 1.2 known", "minor.min(1)", "minor.min(2)"),
+    ("master", "version 2.3 known", "minor.min(2)", "minor.min(3)"),
+    ("master", "higher minor not known", "2 => Ok((2, minor.min(2)))", "2 if minor <= 2 => Ok((2, minor))"),
+    ("master", "version 0 known", "        _ => Err(14),", "        0 => Ok((0, minor)),\n        _ => Err(14),"),
+    # ledger
+    ("book", "earlier copy not taken", "        self.earlier = self.copy.clone();\n", ""),
+    ("book", "count kept at a write at 0", "        self.count = 0;\n        self.f = 0;\n    }", "        self.f = 0;\n    }"),
+    ("book", "f kept at a write at 0", "        self.f = 0;\n    }", "    }"),
+    ("book", "committed kept", "        self.committed = 0;\n        self.count = 0;", "        self.count = 0;"),
+    ("book", "no commit at page ends", "self.accepted.len() % PAGE_BYTES == 0", "self.accepted.len() % (2 * PAGE_BYTES) == 0"),
+    ("book", "every commit counted", "        if changed {", "        if changed || self.committed > 0 {"),
+    ("book", "finalize commits nothing", "            self.f += 1;\n            self.commit(p);", "            self.f += 1;"),
+    ("book", "f not counted", "            self.f += 1;\n", ""),
+    ("book", "offset forgotten", "p.o as usize + place", "place"),
+    ("book", "refused writes accepted", "number != 0 || reply.get(skip) != Some(&0) ||", "number != 0 ||"),
+    ("book", "reset while refused", "if reset && number == 1 {", "if reset {"),
+    ("book", "I2C reset at any address", "address == 0 && frame == [0x06]", "frame == [0x06]"),
+    ("book", "reset address taken for reset", "[0x00, 0x46, 0x80, 0x42]", "[0x00, 0x44, 0x01, 0x83]"),
+    ("book", "write at 0 goes on", "        if address == 0 {\n            self.begin();\n        }\n", ""),
+]
+
+
+def situations(cases):
+    """The comment line that each call stands under."""
+    names, current = [], "start"
+    for line in cases.split("\n"):
+        if line.startswith("# "):
+            current = line[2:]
+        elif line[:1] in ("R", "I", "E", "D", "T", "V"):
+            names.append(current)
+    return names
+
+
+def build(folder, module, old=None, new=None):
+    """A copy of the rules, changed and built; gives an error text or None."""
+    for name in RULES:
+        shutil.copy(os.path.join(HERE, "src", name + ".rs"), folder)
+    if old is not None:
+        path = os.path.join(folder, module + ".rs")
+        with open(path) as f:
+            text = f.read()
+        if text.count(old) != 1:
+            return "text found %d times" % text.count(old)
+        with open(path, "w") as f:
+            f.write(text.replace(old, new))
+    main = "check" if module == "book" else "answer"
+    with open(os.path.join(folder, "main.rs"), "w") as f:
+        f.write(CHECK_MAIN if main == "check" else ANSWER_MAIN)
+    made = subprocess.run(
+        ["rustc", "--edition", "2021", "-C", "opt-level=1", "-C", "overflow-checks=on",
+         "-C", "incremental=parts-" + main, "-A", "warnings", "-o", "mutant", "main.rs"],
+        cwd=folder, capture_output=True, text=True)
+    if made.returncode != 0:
+        return "does not build: " + made.stderr[:400]
+    return None
+
+
+def run(folder, cases):
+    """Exit status and output of the built program; status None if too slow."""
+    try:
+        done = subprocess.run([os.path.join(folder, "mutant")], input=cases.encode(),
+                              capture_output=True, timeout=SECONDS)
+    except subprocess.TimeoutExpired:
+        return None, ""
+    return done.returncode, done.stdout.decode()
+
+
+def judge_answers(status, output, expected, names):
+    if status != 0:
+        return True, "stopped with status %d" % status
+    got = output.split("\n")
+    for k, line in enumerate(expected.split("\n")):
+        if k >= len(got) or got[k] != line:
+            return True, "at " + (names[k] if k < len(names) else "the end")
+    return False, "same output"
+
+
+def judge_check(status, output):
+    if status == 0:
+        return False, "check holds"
+    return True, output.strip().split(";")[0][:60] or "stopped"
+
+
+def try_one(mutant, folders, cases, expected, names):
+    module, name, old, new = mutant
+    folder = folders.get()
+    try:
+        error = build(folder, module, old, new)
+        if error:
+            return "ERROR", error
+        status, output = run(folder, "" if module == "book" else cases)
+    finally:
+        folders.put(folder)
+    if status is None or status < 0:
+        return "ERROR", "too slow or killed"
+    if module == "book":
+        noticed, why = judge_check(status, output)
+    else:
+        noticed, why = judge_answers(status, output, expected, names)
+    return ("noticed" if noticed else "SURVIVED"), why
+
+
+def unchanged_passes(folder, cases, expected):
+    for module in ("board", "book"):
+        error = build(folder, module)
+        status, output = (None, "") if error else run(folder, cases)
+        if status != 0 or (module == "board" and output != expected):
+            print("the unchanged rules fail (%s): %s" % (module, error or "status %s" % status))
+            return False
+    return True
+
+
+def try_all(folders, cases, expected):
+    names = situations(cases)
+    noticed = 0
+    with ThreadPoolExecutor(max_workers=WORKERS) as pool:
+        tried = pool.map(lambda m: try_one(m, folders, cases, expected, names), MUTANTS)
+        for (module, name, _, _), (word, why) in zip(MUTANTS, tried):
+            print("%-8s %s: %s (%s)" % (word, module, name, why), flush=True)
+            noticed += word == "noticed"
+    print("%d of %d mutants noticed" % (noticed, len(MUTANTS)))
+    return 0 if noticed == len(MUTANTS) else 1
+
+
+def main():
+    with open(os.path.join(HERE, "fixed.cases")) as f:
+        cases = f.read()
+    with open(os.path.join(HERE, "fixed.expected")) as f:
+        expected = f.read()
+    with tempfile.TemporaryDirectory() as base:
+        folders = queue.Queue()
+        for k in range(WORKERS):
+            folder = os.path.join(base, "worker%d" % k)
+            os.mkdir(folder)
+            folders.put(folder)
+        if not unchanged_passes(folder, cases, expected):
+            return 1
+        return try_all(folders, cases, expected)
+
+
+if __name__ == "__main__":
+    sys.exit(main())

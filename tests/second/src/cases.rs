@@ -1,0 +1,506 @@
+//! Case generation: the sheet that cases are written on, and random lists.
+
+use rules::check::{framed, general_frame, plain_profile, write_frame};
+use rules::model::*;
+use rules::rng::Rng;
+use rules::script::{hex, Runner};
+
+pub const BUSES: [Bus; 2] = [Bus::I2c, Bus::Rs485];
+
+/// Case lines and their expected output, kept in step.
+#[derive(Default)]
+pub struct Sheet {
+    pub cases: String,
+    pub expected: String,
+    pub runner: Runner,
+}
+
+pub fn bus_number(bus: Bus) -> u8 {
+    match bus {
+        Bus::I2c => 0,
+        Bus::Rs485 => 1,
+    }
+}
+
+/// Most data bytes of a write, most results of a reply.
+pub fn most_data(bus: Bus, m: u32) -> usize {
+    (m as usize).saturating_sub(if bus == Bus::I2c { 4 } else { 6 })
+}
+
+pub fn most_results(bus: Bus, m: u32) -> usize {
+    (m as usize).saturating_sub(if bus == Bus::I2c { 3 } else { 5 })
+}
+
+impl Sheet {
+    pub fn line(&mut self, text: &str) {
+        let output = self.runner.line(text).expect("the generator writes good lines");
+        self.cases.push_str(text);
+        self.cases.push('\n');
+        if let Some(output) = output {
+            self.expected.push_str(&output);
+            self.expected.push('\n');
+        }
+    }
+
+    pub fn note(&mut self, name: &str) {
+        self.line(&format!("# {name}"));
+    }
+
+    pub fn profile(&mut self, p: &Profile) {
+        self.line(&format!(
+            "P {} {} {} {} {} {} {} {} {}",
+            bus_number(p.bus),
+            p.m,
+            p.s,
+            p.o,
+            p.hardware,
+            p.compatible,
+            p.actual,
+            p.version,
+            hex(&p.serial),
+        ));
+    }
+
+    pub fn flash(&mut self, len: u64, a: u64, b: u64) {
+        self.line(&format!("F {len} {a} {b}"));
+    }
+
+    pub fn fresh(&mut self) {
+        self.line("Z");
+    }
+
+    pub fn state(&mut self, s: &State) {
+        let own = match s.own {
+            Own::DefaultRange => 256,
+            Own::Address(address) => u32::from(address),
+        };
+        self.line(&format!(
+            "S {own} {} {} {} {} {} {} {}",
+            u8::from(s.running),
+            s.next,
+            s.w,
+            s.count,
+            s.reply_len,
+            hex(&s.waiting),
+            hex(&s.reply),
+        ));
+    }
+
+    pub fn room(&mut self, n: usize) {
+        self.line(&format!("B {n}"));
+    }
+
+    pub fn frame(&mut self, address: u8, frame: &[u8]) {
+        self.line(&format!("R {address} {}", hex(frame)));
+    }
+
+    pub fn read(&mut self, address: u8) {
+        self.line(&format!("I {address}"));
+    }
+
+    /// Profile, flash of 0xFF with 64 bytes after the working flash, fresh
+    /// state, room for M bytes.
+    pub fn board(&mut self, bus: Bus, m: u32, s: u32, o: u32) {
+        self.profile(&plain_profile(bus, m, s, o));
+        self.flash(u64::from(o) + u64::from(s) + 64, 0, 255);
+        self.fresh();
+        self.room(m as usize);
+    }
+
+    pub fn bus(&self) -> Bus {
+        self.runner.profile.as_ref().map_or(Bus::I2c, |p| p.bus)
+    }
+
+    pub fn next(&self) -> u64 {
+        u64::from(self.runner.state.next)
+    }
+
+    /// An address that the board hears.
+    pub fn own(&self) -> u8 {
+        match self.runner.state.own {
+            Own::DefaultRange => 8,
+            Own::Address(address) => address,
+        }
+    }
+
+    /// A command to the board in a right frame.
+    pub fn send(&mut self, code: u8, args: &[u8]) {
+        let own = self.own();
+        let frame = framed(self.bus(), own, code, args);
+        self.frame(own, &frame);
+    }
+
+    pub fn write(&mut self, at: u64, data: &[u8]) {
+        let own = self.own();
+        let frame = write_frame(self.bus(), own, at, data);
+        self.frame(own, &frame);
+    }
+
+    pub fn finalize(&mut self) {
+        self.send(FINALIZE, &[]);
+    }
+
+    pub fn read_flash(&mut self, at: u64, length: u8) {
+        self.send(READ, &[(at >> 8) as u8, at as u8, length]);
+    }
+
+    /// Code 4 reset address, 6 reset.
+    pub fn general(&mut self, code: u8) {
+        let frame = general_frame(self.bus(), code);
+        self.frame(0, &frame);
+    }
+
+    /// The image in pieces from address 0.
+    pub fn upload(&mut self, image: &[u8], piece: usize) {
+        let mut at = 0;
+        for data in image.chunks(piece.max(1)) {
+            self.write(at as u64, data);
+            at += data.len();
+        }
+    }
+
+    /// The whole working flash by read commands.
+    pub fn read_back(&mut self, size: u64, piece: u8) {
+        let mut at = 0;
+        while at < size {
+            let length = (size - at).min(u64::from(piece)) as u8;
+            self.read_flash(at, length);
+            at += u64::from(length);
+        }
+    }
+
+    #[allow(clippy::too_many_arguments)]
+    pub fn encode(&mut self, bus: Bus, m: u32, code: u32, to: u32, a: u32, b: u32, data: &[u8]) {
+        self.line(&format!("E {} {m} {code} {to} {a} {b} {}", bus_number(bus), hex(data)));
+    }
+
+    pub fn decode(&mut self, bus: Bus, code: u32, address: u8, asked: u32, reply: &[u8]) {
+        self.line(&format!("D {} {code} {address} {asked} {}", bus_number(bus), hex(reply)));
+    }
+
+    pub fn two_reads(&mut self, code: u32, asked: u32, first: &[u8], second: &[u8]) {
+        self.line(&format!("T {code} {asked} {} {}", hex(first), hex(second)));
+    }
+
+    pub fn version(&mut self, major: u8, minor: u8) {
+        self.line(&format!("V {major} {minor}"));
+    }
+}
+
+/// A reply in its frame.
+pub fn reply(bus: Bus, address: u8, status: u8, results: &[u8]) -> Vec<u8> {
+    let mut args = vec![results.len() as u8];
+    args.extend_from_slice(results);
+    framed(bus, address, status, &args)
+}
+
+/// `lists` random lists of calls.
+pub fn random(seed: u64, lists: u64) -> Sheet {
+    let mut sheet = Sheet::default();
+    for list in 0..lists {
+        let mut rng = Rng::new(seed.wrapping_mul(0x0100_0000_01b3) ^ (list << 20));
+        sheet.note(&format!("random list {list} of seed {seed}"));
+        random_list(&mut sheet, &mut rng);
+    }
+    sheet
+}
+
+fn random_list(sheet: &mut Sheet, rng: &mut Rng) {
+    let p = random_profile(rng);
+    let image = random_image(rng, p.s as usize);
+    random_setup(sheet, rng, &p);
+    let calls = if p.s > 10_000 { 12 } else { 15 + rng.below(60) };
+    for _ in 0..calls {
+        match rng.below(100) {
+            0..=85 => random_board_call(sheet, rng, &p, &image),
+            86..=89 => random_encode(sheet, rng),
+            90..=94 => random_decode(sheet, rng),
+            95..=96 => random_two_reads(sheet, rng),
+            97 => sheet.version(rng.byte() % 4, rng.byte() % 5),
+            _ => random_change(sheet, rng, &p),
+        }
+    }
+}
+
+fn random_profile(rng: &mut Rng) -> Profile {
+    let bus = BUSES[rng.below(2) as usize];
+    let m = match rng.below(3) {
+        0 => 32 + rng.below(225),
+        _ => rng.of(&[32, 33, 40, 64, 72, 128, 255, 256, 256]),
+    };
+    let s = rng.of(&[64, 128, 128, 192, 256, 320, 512, 1024, 4096]);
+    let s = if rng.percent(1) { MOST_S } else { s };
+    let o = rng.of(&[0, 0, 64, 128, 1024]);
+    let o = if rng.percent(1) { MOST_O } else { o };
+    let mut p = plain_profile(bus, m as u32, s as u32, o as u32);
+    p.hardware = 1 + rng.below(255) as u8;
+    p.compatible = rng.byte();
+    p.actual = rng.byte();
+    p.version = rng.byte();
+    let length = rng.of(&[0, 1, 3, 8, 15, 16]) as usize;
+    p.serial = rng.bytes(length);
+    p
+}
+
+fn random_image(rng: &mut Rng, size: usize) -> Vec<u8> {
+    match rng.below(4) {
+        0 => vec![rng.byte(); size],
+        1 => (0..size).map(|k| (k / 64 * 17) as u8).collect(),
+        _ => rng.bytes(size),
+    }
+}
+
+fn random_setup(sheet: &mut Sheet, rng: &mut Rng, p: &Profile) {
+    sheet.profile(p);
+    let need = u64::from(p.o) + u64::from(p.s);
+    let extra = rng.of(&[0, 0, 1, 64, 128]);
+    let (a, b) = (rng.of(&[0, 0, 1, 3]), rng.of(&[255, 255, 0, 90]));
+    sheet.flash((need + extra).min(131_072), a, b);
+    let room = u64::from(p.m) + rng.of(&[0, 0, 1, 20]);
+    sheet.room(room as usize);
+    if rng.percent(75) {
+        sheet.fresh();
+    } else {
+        let state = random_state(rng, p);
+        sheet.state(&state);
+    }
+}
+
+/// Mostly well formed.
+fn random_state(rng: &mut Rng, p: &Profile) -> State {
+    let mut s = State::fresh();
+    s.own = random_own(rng);
+    s.running = rng.percent(10);
+    s.next = rng.below(u64::from(p.s) + 1) as u32;
+    s.w = rng.below(u64::from(s.next % 64) + 1) as u32;
+    s.count = rng.below(u64::from(s.next - s.w) + 1) as u32;
+    if p.bus == Bus::I2c && rng.percent(50) {
+        s.reply_len = rng.below(u64::from(p.m) + 1) as u32;
+    }
+    s.waiting.copy_from_slice(&rng.bytes(64));
+    s.reply.copy_from_slice(&rng.bytes(256));
+    match rng.below(25) {
+        0 => s.next = p.s + 1,
+        1 => s.w = s.next % 64 + 1,
+        2 => s.count = s.next - s.w + 1,
+        3 => s.reply_len = p.m + 1,
+        4 => s.w = rng.number() as u32,
+        _ => {}
+    }
+    s
+}
+
+fn random_own(rng: &mut Rng) -> Own {
+    match rng.below(6) {
+        0 => Own::Address(rng.byte()),
+        1 => Own::Address(1 + rng.byte() % 127),
+        _ => Own::DefaultRange,
+    }
+}
+
+/// A change of profile, flash, state or room amid the list.
+fn random_change(sheet: &mut Sheet, rng: &mut Rng, p: &Profile) {
+    match rng.below(6) {
+        0 => sheet.fresh(),
+        1 => {
+            let state = random_state(rng, p);
+            sheet.state(&state);
+        }
+        2 => sheet.room(p.m as usize),
+        3 => {
+            let short = rng.of(&[0, 31, u64::from(p.m) - 1]);
+            sheet.room(short as usize);
+            random_board_call(sheet, rng, p, &[1, 2, 3]);
+            sheet.room(p.m as usize);
+        }
+        4 => {
+            let mut bad = p.clone();
+            match rng.below(4) {
+                0 => bad.m = rng.of(&[31, 257]) as u32,
+                1 => bad.s += 1,
+                2 => bad.o += 1,
+                _ => bad.hardware = 0,
+            }
+            sheet.profile(&bad);
+            random_board_call(sheet, rng, &bad, &[1, 2, 3]);
+            sheet.profile(p);
+        }
+        _ => {
+            let mut other = p.clone();
+            other.hardware = 1 + rng.below(255) as u8;
+            sheet.profile(&other);
+            random_board_call(sheet, rng, p, &[1, 2, 3]);
+            sheet.profile(p);
+        }
+    }
+}
+
+fn random_board_call(sheet: &mut Sheet, rng: &mut Rng, p: &Profile, image: &[u8]) {
+    if sheet.runner.state.running && rng.percent(35) {
+        return sheet.general(6);
+    }
+    if rng.percent(8) {
+        let own = sheet.own();
+        let address = if rng.percent(85) { own } else { rng.byte() };
+        return sheet.read(address);
+    }
+    if rng.percent(5) {
+        return sheet.general(if rng.percent(35) { 6 } else { 4 });
+    }
+    let own = match sheet.runner.state.own {
+        Own::DefaultRange => 8 + rng.byte() % 8,
+        Own::Address(address) => address,
+    };
+    let own = if rng.percent(3) { rng.byte() } else { own };
+    let mut frame = random_frame(sheet, rng, p, image, own);
+    if rng.percent(7) {
+        damage(rng, &mut frame);
+    }
+    frame.truncate(600);
+    sheet.frame(own, &frame);
+}
+
+fn random_frame(sheet: &Sheet, rng: &mut Rng, p: &Profile, image: &[u8], own: u8) -> Vec<u8> {
+    let bus = p.bus;
+    match rng.below(100) {
+        0..=59 => random_write(sheet, rng, p, image, own),
+        60..=74 => framed(bus, own, FINALIZE, &[]),
+        75..=81 => {
+            let at = rng.below(u64::from(p.s) + 2);
+            let length = rng.below(70).min(u64::from(p.s).saturating_sub(at) + 1);
+            framed(bus, own, READ, &[(at >> 8) as u8, at as u8, length as u8])
+        }
+        82..=84 => {
+            let hardware = rng.of(&[0, u64::from(p.hardware), u64::from(p.hardware), 77]) as u8;
+            let address = if rng.percent(80) { 1 + rng.byte() % 127 } else { rng.byte() };
+            framed(bus, own, SET_ADDRESS, &[address, hardware])
+        }
+        85..=86 => framed(bus, own, START, &[]),
+        87..=96 => framed(bus, own, rng.byte() % 16, &[]),
+        97 => {
+            let (code, length) = (rng.byte() % 16, rng.below(6) as usize);
+            framed(bus, own, code, &rng.bytes(length))
+        }
+        98 => {
+            let length = rng.below(600) as usize;
+            rng.bytes(length)
+        }
+        _ => {
+            let length = rng.below(6) as usize;
+            rng.bytes(length)
+        }
+    }
+}
+
+/// A write, mostly in order and with the image's bytes.
+fn random_write(sheet: &Sheet, rng: &mut Rng, p: &Profile, image: &[u8], own: u8) -> Vec<u8> {
+    let next = sheet.next();
+    let at = match rng.below(40) {
+        0 | 1 => 0,
+        2 => next + 1,
+        3 => next.saturating_sub(1),
+        4 => rng.below(65_536),
+        _ if next >= image.len() as u64 && rng.percent(60) => 0,
+        _ => next,
+    };
+    let most = most_data(p.bus, p.m) as u64;
+    let left = u64::from(p.s).saturating_sub(at);
+    let length = match rng.below(10) {
+        0 => rng.below(4),
+        1 => left,
+        2 => left + 1,
+        3 => rng.below(most + 1),
+        4 => (64 - at % 64).min(left),
+        _ => most.min(left),
+    };
+    let length = if rng.percent(98) { length.min(most) } else { length.min(most + 1) };
+    let mut data: Vec<u8> = (at..at + length).map(|k| byte_of(image, k)).collect();
+    if rng.percent(8) {
+        damage(rng, &mut data);
+    }
+    write_frame(p.bus, own, at, &data)
+}
+
+fn byte_of(image: &[u8], k: u64) -> u8 {
+    image.get(k as usize).copied().unwrap_or(0x5a)
+}
+
+fn damage(rng: &mut Rng, bytes: &mut Vec<u8>) {
+    let k = rng.below(bytes.len() as u64) as usize;
+    match rng.below(6) {
+        0 => bytes.truncate(k),
+        1 => bytes.push(0),
+        _ => {
+            if let Some(byte) = bytes.get_mut(k) {
+                *byte ^= 1 << rng.below(8);
+            }
+        }
+    }
+}
+
+fn random_encode(sheet: &mut Sheet, rng: &mut Rng) {
+    let bus = BUSES[rng.below(2) as usize];
+    let m = rng.of(&[31, 32, 33, 64, 128, 256, 256, 257]) as u32;
+    let code = match rng.below(6) {
+        0 => 260,
+        1 => 262,
+        2 => rng.below(256) as u32,
+        _ => rng.below(15) as u32,
+    };
+    let to = rng.of(&[8, 9, 15, 127, 128, 255, 0, 256]) as u32;
+    let room = rng.of(&[0, 1, 2, 3, 4, 6, 8, 32, 256, 300]);
+    let before = sheet.runner.room;
+    sheet.room(room as usize);
+    let length = rng.below(40) as usize;
+    match code {
+        1 => {
+            let (a, b) = (rng.of(&[0, 9, 127, 128, 255, 256]), rng.of(&[0, 7, 255, 256]));
+            sheet.encode(bus, m, code, to, a as u32, b as u32, &[]);
+        }
+        6 => {
+            let a = rng.of(&[0, 1, 256, 65_535, 65_536]) as u32;
+            let data = rng.bytes(length);
+            sheet.encode(bus, m, code, to, a, 0, &data);
+        }
+        8 => {
+            let a = rng.of(&[0, 1, 256, 65_535, 65_536]) as u32;
+            let most = (u64::from(m) - 5) as u32;
+            let b = rng.of(&[0, 1, 27, 28, 29, 30, u64::from(most), u64::from(most) + 3]) as u32;
+            sheet.encode(bus, m, code, to, a, b, &[]);
+        }
+        _ => sheet.encode(bus, m, code, to, 0, 0, &[]),
+    }
+    sheet.room(before);
+}
+
+fn random_reply(rng: &mut Rng, bus: Bus, address: u8) -> Vec<u8> {
+    let status = rng.of(&[0, 0, 0, 1, 2, 5, 6]) as u8;
+    let length = rng.of(&[0, 1, 2, 2, 4, 5, 6, 30]) as usize;
+    let mut bytes = reply(bus, address, status, &rng.bytes(length));
+    match rng.below(5) {
+        0 => damage(rng, &mut bytes),
+        1 => {
+            let more = rng.below(4) as usize;
+            bytes.extend(rng.bytes(more));
+        }
+        _ => {}
+    }
+    bytes
+}
+
+fn random_decode(sheet: &mut Sheet, rng: &mut Rng) {
+    let bus = BUSES[rng.below(2) as usize];
+    let address = rng.of(&[8, 9, 200]) as u8;
+    let from = if rng.percent(90) { address } else { 10 };
+    let bytes = random_reply(rng, bus, from);
+    let asked = rng.of(&[0, 1, 2, 5, 30, 31, 256]) as u32;
+    let code = if rng.percent(90) { rng.below(15) } else { rng.below(256) };
+    sheet.decode(bus, code as u32, address, asked, &bytes);
+}
+
+fn random_two_reads(sheet: &mut Sheet, rng: &mut Rng) {
+    let first = random_reply(rng, Bus::I2c, 0);
+    let second = random_reply(rng, Bus::I2c, 0);
+    let asked = rng.of(&[0, 1, 2, 5, 30]) as u32;
+    sheet.two_reads(rng.below(15) as u32, asked, &first, &second);
+}

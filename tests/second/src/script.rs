@@ -1,0 +1,330 @@
+//! Case files: reading their lines and answering the calls (see FORMAT.md).
+
+use crate::board;
+use crate::master::{self, Request};
+use crate::model::*;
+
+pub const UNTOUCHED: u8 = 0xa5;
+pub const MOST_BYTES: usize = 600;
+const MOST_NUMBER: u64 = 4_294_967_295;
+
+/// The standing parts of a case file: profile, flash, state, output room.
+pub struct Runner {
+    pub profile: Option<Profile>,
+    pub flash: Option<Vec<u8>>,
+    pub state: State,
+    pub room: usize,
+}
+
+impl Default for Runner {
+    fn default() -> Runner {
+        Runner { profile: None, flash: None, state: State::fresh(), room: 256 }
+    }
+}
+
+type Fields<'a> = &'a [&'a str];
+
+impl Runner {
+    /// Carry out one line. A call gives its output line; a bad line an error
+    /// message, and changes nothing.
+    pub fn line(&mut self, line: &str) -> Result<Option<String>, String> {
+        if line.is_empty() || line.starts_with('#') {
+            return Ok(None);
+        }
+        let fields: Vec<&str> = line.split(' ').collect();
+        let rest = &fields[1..];
+        match fields[0] {
+            "P" => self.set_profile(rest).map(|()| None),
+            "F" => self.set_flash(rest).map(|()| None),
+            "Z" => self.set_fresh(rest).map(|()| None),
+            "S" => self.set_state(rest).map(|()| None),
+            "B" => self.set_room(rest).map(|()| None),
+            "R" => self.receive(rest).map(Some),
+            "I" => self.read(rest).map(Some),
+            "E" => self.encode(rest).map(Some),
+            "D" => decode(rest).map(Some),
+            "T" => two_reads(rest).map(Some),
+            "V" => version(rest).map(Some),
+            other => Err(format!("unknown line letter `{other}`")),
+        }
+    }
+
+    fn set_profile(&mut self, f: Fields) -> Result<(), String> {
+        count_fields(f, 9)?;
+        self.profile = Some(Profile {
+            bus: bus(f[0])?,
+            m: number("M", f[1], MOST_NUMBER)? as u32,
+            s: number("S", f[2], MOST_NUMBER)? as u32,
+            o: number("O", f[3], MOST_NUMBER)? as u32,
+            hardware: number("hardware", f[4], 255)? as u8,
+            compatible: number("compatible", f[5], 255)? as u8,
+            actual: number("actual", f[6], 255)? as u8,
+            version: number("version", f[7], 255)? as u8,
+            serial: bytes("serial", f[8], 40)?,
+        });
+        Ok(())
+    }
+
+    fn set_flash(&mut self, f: Fields) -> Result<(), String> {
+        count_fields(f, 3)?;
+        let len = number("length", f[0], 131_072)?;
+        let a = number("a", f[1], MOST_NUMBER)?;
+        let b = number("b", f[2], MOST_NUMBER)?;
+        self.flash = Some((0..len).map(|i| (a * i + b) as u8).collect());
+        Ok(())
+    }
+
+    fn set_fresh(&mut self, f: Fields) -> Result<(), String> {
+        count_fields(f, 0)?;
+        self.state = State::fresh();
+        Ok(())
+    }
+
+    fn set_state(&mut self, f: Fields) -> Result<(), String> {
+        count_fields(f, 8)?;
+        let own = number("own", f[0], 256)?;
+        let waiting = bytes("waiting", f[6], 64)?;
+        let reply = bytes("reply", f[7], 256)?;
+        self.state = State {
+            own: if own == 256 { Own::DefaultRange } else { Own::Address(own as u8) },
+            running: number("running", f[1], 1)? == 1,
+            next: number("next", f[2], MOST_NUMBER)? as u32,
+            w: number("w", f[3], MOST_NUMBER)? as u32,
+            count: number("count", f[4], MOST_NUMBER)? as u32,
+            reply_len: number("replylen", f[5], MOST_NUMBER)? as u32,
+            waiting: waiting.try_into().map_err(|_| "waiting needs exactly 64 bytes".to_string())?,
+            reply: reply.try_into().map_err(|_| "reply needs exactly 256 bytes".to_string())?,
+        };
+        Ok(())
+    }
+
+    fn set_room(&mut self, f: Fields) -> Result<(), String> {
+        count_fields(f, 1)?;
+        self.room = number("n", f[0], 512)? as usize;
+        Ok(())
+    }
+
+    fn receive(&mut self, f: Fields) -> Result<String, String> {
+        count_fields(f, 2)?;
+        let address = number("address", f[0], 255)? as u8;
+        let frame = bytes("frame", f[1], MOST_BYTES)?;
+        self.board_call('R', |p, s, flash, out| board::receive(p, s, flash, out, address, &frame))
+    }
+
+    fn read(&mut self, f: Fields) -> Result<String, String> {
+        count_fields(f, 1)?;
+        let address = number("address", f[0], 255)? as u8;
+        self.board_call('I', |p, s, flash, out| board::read(p, s, flash, out, address))
+    }
+
+    fn board_call<C>(&mut self, letter: char, call: C) -> Result<String, String>
+    where
+        C: FnOnce(&Profile, &mut State, &mut [u8], &mut [u8]) -> Answer,
+    {
+        let p = self.profile.as_ref().ok_or("no profile line before this call")?;
+        let flash = self.flash.as_mut().ok_or("no flash line before this call")?;
+        let mut out = vec![UNTOUCHED; self.room];
+        let answer = call(p, &mut self.state, flash, &mut out);
+        Ok(format!(
+            "{letter} {} {} {} {:016x} {}",
+            answer.number,
+            hex(&out[..answer.len]),
+            state_text(&self.state),
+            fnv(flash),
+            rest_untouched(&out, answer.len),
+        ))
+    }
+
+    fn encode(&self, f: Fields) -> Result<String, String> {
+        count_fields(f, 7)?;
+        let bus = bus(f[0])?;
+        let m = number("M", f[1], MOST_NUMBER)? as u32;
+        let data = bytes("data", f[6], MOST_BYTES)?;
+        let request = Request {
+            code: number("code", f[2], MOST_NUMBER)? as u32,
+            destination: number("destination", f[3], MOST_NUMBER)? as u32,
+            a: number("a", f[4], MOST_NUMBER)? as u32,
+            b: number("b", f[5], MOST_NUMBER)? as u32,
+            data: &data,
+        };
+        let mut out = vec![UNTOUCHED; self.room];
+        let answer = master::encode(bus, m, &request, &mut out);
+        let made = hex(&out[..answer.len]);
+        Ok(format!("E {} {made} {}", answer.number, rest_untouched(&out, answer.len)))
+    }
+}
+
+fn decode(f: Fields) -> Result<String, String> {
+    count_fields(f, 5)?;
+    let bus = bus(f[0])?;
+    let code = number("code", f[1], MOST_NUMBER)? as u32;
+    let address = number("address", f[2], 255)? as u32;
+    let asked = number("asked", f[3], MOST_NUMBER)? as u32;
+    let reply = bytes("reply", f[4], MOST_BYTES)?;
+    Ok(match master::decode(bus, code, address, asked, &reply) {
+        Ok(d) => format!("D 0 {} {} {}", d.status, d.start, d.length),
+        Err(n) => format!("D {n} 0 0 0"),
+    })
+}
+
+fn two_reads(f: Fields) -> Result<String, String> {
+    count_fields(f, 4)?;
+    let code = number("code", f[0], MOST_NUMBER)? as u32;
+    let asked = number("asked", f[1], MOST_NUMBER)? as u32;
+    let first = bytes("first", f[2], MOST_BYTES)?;
+    let second = bytes("second", f[3], MOST_BYTES)?;
+    let (which, results) = master::two_reads(code, asked, &first, &second);
+    Ok(format!("T {which} {}", hex(results)))
+}
+
+fn version(f: Fields) -> Result<String, String> {
+    count_fields(f, 2)?;
+    let major = number("major", f[0], 255)? as u8;
+    let minor = number("minor", f[1], 255)? as u8;
+    Ok(match master::version(major, minor) {
+        Ok((major, minor)) => format!("V 0 {major} {minor}"),
+        Err(n) => format!("V {n} 0 0"),
+    })
+}
+
+fn rest_untouched(out: &[u8], len: usize) -> u8 {
+    u8::from(out[len..].iter().all(|&byte| byte == UNTOUCHED))
+}
+
+fn state_text(s: &State) -> String {
+    let own = match s.own {
+        Own::DefaultRange => 256,
+        Own::Address(address) => u32::from(address),
+    };
+    format!(
+        "{own} {} {} {} {} {} {}",
+        u8::from(s.running),
+        s.next,
+        s.w,
+        s.count,
+        hex(s.waiting_bytes()),
+        hex(s.last_reply()),
+    )
+}
+
+/// FNV-1a, 64 bits.
+pub fn fnv(bytes: &[u8]) -> u64 {
+    let mut hash: u64 = 0xcbf2_9ce4_8422_2325;
+    for &byte in bytes {
+        hash ^= u64::from(byte);
+        hash = hash.wrapping_mul(0x0000_0100_0000_01b3);
+    }
+    hash
+}
+
+/// Lowercase pairs, `-` for no bytes.
+pub fn hex(bytes: &[u8]) -> String {
+    const DIGITS: &[u8; 16] = b"0123456789abcdef";
+    if bytes.is_empty() {
+        return "-".to_string();
+    }
+    let mut text = String::with_capacity(2 * bytes.len());
+    for &byte in bytes {
+        text.push(DIGITS[usize::from(byte >> 4)] as char);
+        text.push(DIGITS[usize::from(byte & 15)] as char);
+    }
+    text
+}
+
+fn count_fields(f: Fields, wanted: usize) -> Result<(), String> {
+    if f.len() == wanted {
+        return Ok(());
+    }
+    Err(format!("{} fields after the letter, {wanted} wanted", f.len()))
+}
+
+fn bus(text: &str) -> Result<Bus, String> {
+    match text {
+        "0" => Ok(Bus::I2c),
+        "1" => Ok(Bus::Rs485),
+        _ => Err(format!("bus `{text}` is not 0 or 1")),
+    }
+}
+
+fn number(name: &str, text: &str, most: u64) -> Result<u64, String> {
+    let digits = !text.is_empty() && text.bytes().all(|c| c.is_ascii_digit());
+    match text.parse::<u64>() {
+        Ok(n) if digits && n <= most => Ok(n),
+        _ => Err(format!("{name} `{text}` is not a number from 0 to {most}")),
+    }
+}
+
+fn bytes(name: &str, text: &str, most: usize) -> Result<Vec<u8>, String> {
+    if text == "-" {
+        return Ok(Vec::new());
+    }
+    let digits = text.as_bytes();
+    if digits.is_empty() || digits.len() % 2 != 0 {
+        return Err(format!("{name} is not `-` or pairs of hex digits"));
+    }
+    if digits.len() / 2 > most {
+        return Err(format!("{name} is longer than {most} bytes"));
+    }
+    digits
+        .chunks(2)
+        .map(|pair| Some(digit(pair[0])? * 16 + digit(pair[1])?))
+        .collect::<Option<Vec<u8>>>()
+        .ok_or(format!("{name} holds a character that is no lowercase hex digit"))
+}
+
+fn digit(c: u8) -> Option<u8> {
+    match c {
+        b'0'..=b'9' => Some(c - b'0'),
+        b'a'..=b'f' => Some(c - b'a' + 10),
+        _ => None,
+    }
+}
+
+/// Answers of a whole case file: the output, and the messages on bad lines.
+pub fn answer_all(text: &[u8]) -> (String, Vec<String>) {
+    let mut runner = Runner::default();
+    let mut output = String::new();
+    let mut errors = Vec::new();
+    for (k, line) in text.split(|&c| c == b'\n').enumerate() {
+        let result = match std::str::from_utf8(line) {
+            Ok(line) => runner.line(line),
+            Err(_) => Err("not UTF-8 text".to_string()),
+        };
+        match result {
+            Ok(Some(text)) => {
+                output.push_str(&text);
+                output.push('\n');
+            }
+            Ok(None) => {}
+            Err(message) => errors.push(format!("line {}: {message}", k + 1)),
+        }
+    }
+    (output, errors)
+}
+
+#[cfg(test)]
+mod tests {
+    use super::*;
+
+    #[test]
+    fn bad_lines_are_told_and_skipped() {
+        let (output, errors) = answer_all(b"V 2 9\nV 2\nR 8 00f3\nQ\nV 2 x\nD 0 0 8 0 0\nV 0 0\n");
+        assert_eq!(output, "V 0 2 2\nV 14 0 0\n");
+        assert_eq!(errors.len(), 5);
+        assert!(errors[0].starts_with("line 2: "));
+    }
+
+    #[test]
+    fn version_request_of_the_examples() {
+        let text = b"P 0 256 128 0 7 16 19 3 -\nF 128 0 255\nR 8 00f3\n";
+        let (output, errors) = answer_all(text);
+        assert!(errors.is_empty());
+        assert!(output.starts_with("R 0 0002020223 256 0 0 0 0 - 0002020223 "));
+    }
+
+    #[test]
+    fn hash_of_nothing() {
+        assert_eq!(fnv(b""), 0xcbf2_9ce4_8422_2325);
+        assert_eq!(fnv(b"a"), 0xaf63_dc4c_8601_ec8c);
+    }
+}

@@ -1,0 +1,192 @@
+/*
+ * The board on a pseudo-terminal, asked by libmodbus: requests go out by modbus_send_raw_request, which adds the check sum,
+ * and replies are taken by modbus_receive_confirmation, which tests it. libmodbus takes a status for a Modbus function; up to
+ * status 4 the form of the reply is the same. (Status 5 is a longer reply in Modbus, so there the bytes are read as they come.)
+ *
+ *   master TTY session    every command, an upload with read back, silence, general calls
+ *   master TTY written B..  finalizes and compares the first bytes of flash with B.. (hex)
+ */
+#include <errno.h>
+#include <modbus.h>
+#include <poll.h>
+#include <stdbool.h>
+#include <stdint.h>
+#include <stdio.h>
+#include <stdlib.h>
+#include <string.h>
+#include <unistd.h>
+
+enum { FIRST = 8, OWN = 20, IMAGE = 1500, DATA_MAX = 250, READ_MAX = 251 };
+
+static modbus_t *bus;
+static unsigned checks;
+
+static void fail(const char *step, const char *why)
+{
+    fprintf(stderr, "%s: %s\n", step, why);
+    exit(1);
+}
+
+/* How long to wait for a reply: long where one must come, shorter where none may. */
+static void patience(uint32_t seconds, uint32_t microseconds)
+{
+    if (modbus_set_response_timeout(bus, seconds, microseconds) != 0)
+        fail("timeout", modbus_strerror(errno));
+}
+
+static void send_request(const char *step, const uint8_t *request, int len)
+{
+    if (modbus_set_slave(bus, request[0]) != 0)
+        fail(step, modbus_strerror(errno));
+    if (modbus_send_raw_request(bus, request, len) != len + 2)
+        fail(step, modbus_strerror(errno));
+}
+
+/* Sends a request; the reply, without its check sum, must be these bytes. */
+static void expect(const char *step, const uint8_t *request, int len, const uint8_t *reply, int reply_len)
+{
+    uint8_t got[MODBUS_RTU_MAX_ADU_LENGTH];
+    send_request(step, request, len);
+    int n = modbus_receive_confirmation(bus, got);
+    if (n < 0)
+        fail(step, modbus_strerror(errno));
+    if (n != reply_len + 2 || memcmp(got, reply, (size_t)reply_len) != 0) {
+        for (int i = 0; i < n; i++)
+            fprintf(stderr, "%02x ", got[i]);
+        fail(step, "not the reply that was expected");
+    }
+    checks++;
+}
+
+/* No reply may come. */
+static void expect_silence(const char *step)
+{
+    uint8_t got[MODBUS_RTU_MAX_ADU_LENGTH];
+    patience(0, 600000);
+    if (modbus_receive_confirmation(bus, got) >= 0 || errno != ETIMEDOUT)
+        fail(step, "silence was expected");
+    patience(10, 0);
+    checks++;
+}
+
+static void expect_raw(const char *step, const uint8_t *request, int len, const uint8_t *reply, size_t reply_len)
+{
+    uint8_t got[16];
+    size_t n = 0;
+    int line = modbus_get_socket(bus);
+    send_request(step, request, len);
+    while (n < reply_len) {
+        struct pollfd fd = {line, POLLIN, 0};
+        if (poll(&fd, 1, 10000) <= 0)
+            fail(step, "no reply");
+        ssize_t more = read(line, got + n, sizeof got - n);
+        if (more <= 0)
+            fail(step, "read");
+        n += (size_t)more;
+    }
+    if (n != reply_len || memcmp(got, reply, reply_len) != 0)
+        fail(step, "not the reply that was expected");
+    checks++;
+}
+
+#define BYTES(...) (const uint8_t[]){__VA_ARGS__}, sizeof(const uint8_t[]){__VA_ARGS__}
+
+static void upload(const uint8_t *image, unsigned erased)
+{
+    uint8_t request[4 + DATA_MAX];
+    for (unsigned at = 0; at < IMAGE; at += DATA_MAX) {
+        memcpy(request, (uint8_t[]){OWN, 0x06, (uint8_t)(at >> 8), (uint8_t)at}, 4);
+        memcpy(request + 4, image + at, DATA_MAX);
+        expect("write", request, sizeof request, BYTES(OWN, 0, 0));
+    }
+    expect("finalize", BYTES(OWN, 0x07), BYTES(OWN, 0, 2, (uint8_t)(erased >> 8), (uint8_t)erased));
+}
+
+static void read_back(const uint8_t *image)
+{
+    uint8_t reply[3 + READ_MAX];
+    for (unsigned at = 0; at < IMAGE; at += READ_MAX) {
+        unsigned n = IMAGE - at < READ_MAX ? IMAGE - at : READ_MAX;
+        memcpy(reply, (uint8_t[]){OWN, 0, (uint8_t)n}, 3);
+        memcpy(reply + 3, image + at, n);
+        expect("read", BYTES(OWN, 0x08, (uint8_t)(at >> 8), (uint8_t)at, (uint8_t)n), reply, (int)n + 3);
+    }
+}
+
+static void session(void)
+{
+    uint8_t image[IMAGE];
+    for (unsigned i = 0; i < IMAGE; i++)
+        image[i] = (uint8_t)(i * 5 + i / 64);
+
+    expect("version", BYTES(FIRST, 0x00), BYTES(FIRST, 0, 2, 2, 2));
+    expect("version, end of the default range", BYTES(15, 0x00), BYTES(15, 0, 2, 2, 2));
+    expect("hardware info", BYTES(FIRST, 0x03), BYTES(FIRST, 0, 5, 7, 1, 3, 0x10, 0x00));
+    expect("serial", BYTES(FIRST, 0x04), BYTES(FIRST, 0, 3, 'Q', 'R', 'S'));
+    expect("revision", BYTES(FIRST, 0x09), BYTES(FIRST, 0, 1, 2));
+    expect("longest frame", BYTES(FIRST, 0x0c), BYTES(FIRST, 0, 2, 1, 0));
+    expect("command not served", BYTES(FIRST, 0x02), BYTES(FIRST, 2, 0));
+    expect("unknown command", BYTES(FIRST, 0x46), BYTES(FIRST, 2, 0));
+    expect_raw("write out of order", BYTES(FIRST, 0x06, 0, 1, 0x55), BYTES(FIRST, 5, 0, 0xf3, 0x52));
+
+    send_request("set address, another type", BYTES(FIRST, 0x01, OWN, 6));
+    expect_silence("set address, another type");
+    expect("set address", BYTES(FIRST, 0x01, OWN, 7), BYTES(FIRST, 0, 0));
+    expect("version, new address", BYTES(OWN, 0x00), BYTES(OWN, 0, 2, 2, 2));
+    send_request("foreign address", BYTES(FIRST, 0x00));
+    expect_silence("foreign address");
+
+    upload(image, (IMAGE + 63) / 64);
+    read_back(image);
+    upload(image, 0);
+
+    /* a damaged version request: libmodbus makes right ones only, so its bytes go straight to the line */
+    if (write(modbus_get_socket(bus), (uint8_t[]){OWN, 0x00, 0x00, 0x00}, 4) != 4)
+        fail("damaged frame", "write");
+    expect_silence("damaged frame");
+    expect("version, after a damaged frame", BYTES(OWN, 0x00), BYTES(OWN, 0, 2, 2, 2));
+
+    send_request("general call: reset address", BYTES(0, 0x44));
+    expect_silence("general call: reset address");
+    expect("version, default range again", BYTES(FIRST, 0x00), BYTES(FIRST, 0, 2, 2, 2));
+
+    send_request("start", BYTES(FIRST, 0x05));
+    expect_silence("start");
+    send_request("version while running", BYTES(FIRST, 0x00));
+    expect_silence("version while running");
+    send_request("general call: reset", BYTES(0, 0x46));
+    expect_silence("general call: reset");
+    expect("version, after the reset", BYTES(FIRST, 0x00), BYTES(FIRST, 0, 2, 2, 2));
+    expect("flash is kept", BYTES(FIRST, 0x08, 0, 0, 4), BYTES(FIRST, 0, 4, image[0], image[1], image[2], image[3]));
+}
+
+static void written(char **bytes, int len)
+{
+    uint8_t reply[64];
+    memcpy(reply, (uint8_t[]){FIRST, 0, (uint8_t)len}, 3);
+    for (int i = 0; i < len; i++)
+        reply[3 + i] = (uint8_t)strtoul(bytes[i], NULL, 16);
+    expect("finalize", BYTES(FIRST, 0x07), BYTES(FIRST, 0, 2, 0, 1));
+    expect("read", BYTES(FIRST, 0x08, 0, 0, (uint8_t)len), reply, len + 3);
+}
+
+int main(int argc, char **argv)
+{
+    bool whole = argc == 3 && strcmp(argv[2], "session") == 0;
+    if (!whole && !(argc > 3 && argc < 60 && strcmp(argv[2], "written") == 0)) {
+        fprintf(stderr, "usage: master TTY session | master TTY written BYTE ..\n");
+        return 2;
+    }
+    bus = modbus_new_rtu(argv[1], 9600, 'N', 8, 1);
+    if (bus == NULL || modbus_connect(bus) != 0)
+        fail(argv[1], modbus_strerror(errno));
+    patience(10, 0);
+    if (whole)
+        session();
+    else
+        written(argv + 3, argc - 3);
+    modbus_close(bus);
+    modbus_free(bus);
+    printf("libmodbus: %u exchanges as expected\n", checks);
+    return 0;
+}
