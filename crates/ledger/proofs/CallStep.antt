@@ -16,6 +16,7 @@ use Rattle.rules.specs.Numbers.{refusal, flashShort, bufferShort}
 use Rattle.rules.specs.Frames.{destination, framing, verdict}
 use Rattle.rules.specs.Commands.{invalidTransfer, invalidCrc}
 use Rattle.rules.specs.Board.{nothing, addressReset, judged, received, readOut, readAnswered}
+use Rattle.rules.proofs.BoardLaws.{refusal-least}
 use Rattle.rules.proofs.StateLaws.{Sound, refusal-sound}
 use Rattle.rules.proofs.UploadLaws.{by-test}
 use Rattle.rules.proofs.VerdictLaws.{framing-cases, verdict-cases}
@@ -59,19 +60,6 @@ module _ (p : Profile) (s : State) (d : List ℕ) (k : Ledger) (a : ℕ) (f : Li
         reset-address = λ other off e. nothing-quiet p k a f (addressReset s) d (form ∙ other) (keeps-other p s d k DefaultRange [] i);
         framed = λ other off e. framing-judges (sound-heard p s d k m sound off i) (form ∙ other);
       })
-
--- a refusal is 2 or above
-refusal-least : (p : Profile) (s : State) (n m : ℕ) → eqb (refusal p s n m) 0 ≡ false → 2 ≤ refusal p s n m
-unfolding refusal
-refusal-least p s n m e = go (not (inRange p)) (flashShort p n) (not (wellFormed p s)) (bufferShort p m) e
-  where
-    go : (range flash state buffer : Bool) → eqb (cond range 2 (cond flash 3 (cond state 4 (cond buffer 5 0)))) 0 ≡ false
-        → 2 ≤ cond range 2 (cond flash 3 (cond state 4 (cond buffer 5 0)))
-    go true flash state buffer e = omega arith
-    go false true state buffer e = omega arith
-    go false false true buffer e = omega arith
-    go false false false true e = omega arith
-    go false false false false e = absurd (false≢true (sym e))
 
 -- a received frame
 pub received-enters : (p : Profile) (s : State) (d : List ℕ) (k : Ledger) (a : ℕ) (f : List ℕ) (m : ℕ) → Keeps p s d k

@@ -7,3 +7,5 @@ pub mod UploadLaws
 pub mod CommandLaws
 pub mod BoardLaws
 pub mod VerdictLaws
+pub mod FrameLaws
+pub mod ArgumentLaws

@@ -68,13 +68,20 @@ commandWrong bus M destination code n =
     || (ltb M (shortestRequest bus + n)
     || (eqb destination 0 || addressOver bus destination))
 
+-- a new bus address over its range, a hardware type over 255
+abbrev pub setAddressWrong : Bus → ℕ → ℕ → Bool
+setAddressWrong bus address hardware = addressOver bus address || ltb 255 hardware
+
+-- a read longer than a reply holds
+abbrev pub readWrong : Bus → ℕ → ℕ → ℕ → Bool
+readWrong bus M address n = flashAddressOver address || ltb (M - shortestReply bus) n
+
 -- 7: request argument out of range, with n data bytes
 unfoldable pub argumentWrong : Bus → ℕ → Request → ℕ → ℕ → Bool
 argumentWrong bus M (Plain code) destination n = commandWrong bus M destination code 0
-argumentWrong bus M (SetAddress address hardware) destination n = commandWrong bus M destination 0x01 2 || (addressOver bus address || ltb 255 hardware)
+argumentWrong bus M (SetAddress address hardware) destination n = commandWrong bus M destination 0x01 2 || setAddressWrong bus address hardware
 argumentWrong bus M (Write address) destination n = commandWrong bus M destination 0x06 (2 + n) || flashAddressOver address
-argumentWrong bus M (Read address asked) destination n =
-    commandWrong bus M destination 0x08 3 || (flashAddressOver address || ltb (M - shortestReply bus) asked)
+argumentWrong bus M (Read address asked) destination n = commandWrong bus M destination 0x08 3 || readWrong bus M address asked
 argumentWrong bus M ResetAddress destination n = false
 argumentWrong bus M Reset destination n = false
 

@@ -1,6 +1,6 @@
 -- What write and finalize ask of the upload holds where none of the numbers 2 to 5 applies. Assumes nothing.
 use mathlib.Core.Path.{_≡_, refl, sym, ap, _∙_}
-use mathlib.Core.Bool.{Bool, true, false, _&&_, _||_}
+use mathlib.Core.Bool.{Bool, true, false, _||_, and-eq-true-iff}
 use mathlib.Core.List.{List}
 use Prim.Native.Nat.{ℕ, _+_, _-_, _≤_}
 use native.Mathlib.Omega.{arith}
@@ -46,16 +46,12 @@ begun-formed P S a u formed = go (eqb a 0) refl
     go true e = rw e (facts-uploadFormed P S rules.freshUpload (record { next-most = omega arith; waiting-most = omega arith; count-most = omega arith }))
     go false e = rw e formed
 
-&&-true : (a b : Bool) → (a && b) ≡ true → (a ≡ true) × (b ≡ true)
-&&-true true b e = (refl, e)
-&&-true false b e = (e, cc)
-
 -- an accepted write's data follow the bytes that the upload has then, within S
 pub accepted-fits : (S a n : ℕ) (u : rules.Upload) → accepted S (u .next) a n ≡ true → begun a u .next + n ≤ S
 accepted-fits S a n u e = go (eqb a 0) refl
   where
     parts : ((eqb a 0 || eqb a (u .next)) ≡ true) × (leb (a + n) S ≡ true)
-    parts = &&-true (eqb a 0 || eqb a (u .next)) (leb (a + n) S) e
+    parts = and-eq-true-iff (eqb a 0 || eqb a (u .next)) (leb (a + n) S) .0 e
 
     go : (b : Bool) → eqb a 0 ≡ b → begun a u .next + n ≤ S
     go true f = rw f (omega (arith, leb-true (a + n) S (parts .1)))

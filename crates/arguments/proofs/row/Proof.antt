@@ -1,10 +1,11 @@
 -- `arguments::row` meets its contract: the table in the code is the definition's, and past its end both have zeros. Assumes nothing.
-use mathlib.Core.Path.{_≡_, refl, sym, ap, _∙_}
-use mathlib.Core.List.{List, [], _∷_}
-use Prim.Native.Nat.{ℕ, zero, suc, _≤_}
-use lib.ListN.{getD, List·getD-eq-default}
+use mathlib.Core.Path.{_≡_, refl, sym, _∙_}
+use mathlib.Core.List.{[], _∷_}
+use Prim.Native.Nat.{ℕ, zero, suc}
+use lib.ListN.{getD}
 use borrow.Author.Needs.{needs}
-use Rattle.rules.specs.Commands.{argumentRows, tabled}
+use Rattle.rules.specs.Commands.{tabled}
+use Rattle.rules.proofs.ArgumentLaws.{tabled-past}
 use Rattle.arguments.proofs.row.Statement.{statement}
 use Rattle.arguments.proofs.row.Tie as tie
 
@@ -13,10 +14,6 @@ zeros zero = refl
 zeros (suc zero) = refl
 zeros (suc (suc zero)) = refl
 zeros (suc (suc (suc n))) = refl
-
-tabled-past : (code column : ℕ) → 15 ≤ code → tabled code column ≡ 0
-unfolding tabled
-tabled-past code column h = ap (λ (l : List ℕ). getD l column 0) (List·getD-eq-default argumentRows [] h)
 
 returns : tie.Need-returns
 returns c = λ column. zeros column ∙ sym (tabled-past _ column (c .if1 .taken))

@@ -1,0 +1,3 @@
+pub mod WrongLaws
+pub mod WriteLaws
+pub mod EncodeLaws

@@ -1,0 +1,4 @@
+pub mod Made
+pub mod Requests
+pub mod Spoken
+pub mod Replies

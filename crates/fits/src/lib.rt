@@ -1,0 +1,13 @@
+// The two halves fit, stated where a reader meets it. The functions do nothing.
+ghost use Rattle.fits.specs.Understood.{RequestsUnderstood};
+ghost use Rattle.fits.specs.ReadBack.{RepliesRead};
+
+// Every request that the encoder makes is taken by a board that hears it as that very command with those very arguments.
+pub fn requests_understood()
+    ensures { λ _. ⌜ RequestsUnderstood ⌝ }
+{}
+
+// Every reply to such a request decodes to exactly the status and results that the board's rule says, and never to a refusal.
+pub fn replies_read()
+    ensures { λ _. ⌜ RepliesRead ⌝ }
+{}

@@ -1,0 +1,458 @@
+//! The second program's rules and the library side by side: one item at a time, everything compared.
+
+use crate::items::*;
+use crate::layout::*;
+use crate::library::{self, Lent};
+use crate::tally::{Kind, Tally};
+use rules::board;
+use rules::book::{event, Seen};
+use rules::master::{self, Request, RESET_ADDRESS_CALL, RESET_CALL};
+use rules::model::*;
+use rules::script::{fnv, hex, UNTOUCHED};
+
+/// What differs, and both answers as output lines of the case-file format.
+pub struct Difference {
+    pub what: String,
+    pub second: String,
+    pub library: String,
+}
+
+pub enum Stop {
+    Differs(Difference),
+    /// A board call before a profile and a flash are set.
+    Unfit,
+}
+
+impl From<Difference> for Stop {
+    fn from(difference: Difference) -> Stop {
+        Stop::Differs(difference)
+    }
+}
+
+/// One board on both sides. No profile or no state: the bytes say none.
+struct Board {
+    profile: Option<Profile>,
+    state: Option<State>,
+    flash: Vec<u8>,
+    profile_bytes: Vec<u8>,
+    lent_profile: Lent,
+    lent_state: Lent,
+    lent_flash: Lent,
+    room: usize,
+}
+
+pub struct Pair {
+    board: Board,
+    has_profile: bool,
+    has_flash: bool,
+    pub tally: Tally,
+}
+
+impl Pair {
+    /// As a case file starts: fresh state, room for 256 bytes.
+    pub fn new() -> Pair {
+        let state = State::fresh();
+        let board = Board {
+            profile: None,
+            profile_bytes: Vec::new(),
+            lent_profile: Lent::new(&[]),
+            lent_state: Lent::new(&state_bytes(&state)),
+            state: Some(state),
+            flash: Vec::new(),
+            lent_flash: Lent::new(&[]),
+            room: 256,
+        };
+        Pair { board, has_profile: false, has_flash: false, tally: Tally::default() }
+    }
+
+    /// Sets what the item sets, or runs its call on both sides.
+    pub fn step(&mut self, item: &Item) -> Result<(), Stop> {
+        match item {
+            Item::Profile(p) => {
+                let bytes = profile_bytes(p);
+                self.board.profile = profile_of(&bytes);
+                self.board.lent_profile = Lent::new(&bytes);
+                self.board.profile_bytes = bytes;
+                self.has_profile = true;
+            }
+            Item::Flash { len, a, b } => self.set_flash(*len, *a, *b),
+            Item::Fresh => self.set_fresh()?,
+            Item::State(s) => {
+                self.board.lent_state = Lent::new(&state_bytes(s));
+                self.board.state = Some((**s).clone());
+            }
+            Item::Room(n) => self.board.room = *n,
+            Item::Board(call) => self.standing(call)?,
+            Item::Aside(call, buffers) => self.aside(call, buffers)?,
+            Item::Encode(e) => self.encode(e)?,
+            Item::AsideEncode(e, room) => self.encode_any(e, *room)?,
+            Item::General { bus, m, reset, room } => self.general(*bus, *m, *reset, *room)?,
+            Item::Decode(d) | Item::AsideDecode(d) => self.decode(d)?,
+            Item::TwoReads { code, asked, first, second } => self.two_reads(*code, *asked, first, second)?,
+            Item::Version { major, minor } | Item::AsideVersion { major, minor } => {
+                self.version(*major, *minor)?;
+            }
+            Item::AsideFresh(len) => self.fresh(&vec![UNTOUCHED; *len]).map(|_| ())?,
+        }
+        Ok(())
+    }
+
+    fn set_flash(&mut self, len: u32, a: u32, b: u32) {
+        let byte = |i: u32| (u64::from(a) * u64::from(i) + u64::from(b)) as u8;
+        self.board.flash = (0..len).map(byte).collect();
+        self.board.lent_flash = Lent::new(&self.board.flash);
+        self.has_flash = true;
+    }
+
+    /// The library makes its fresh state itself, over bytes that say something else.
+    fn set_fresh(&mut self) -> Result<(), Difference> {
+        let given = vec![0xeb; STATE_BYTES + self.board.flash.len() % 3];
+        self.board.lent_state = self.fresh(&given)?;
+        self.board.state = Some(State::fresh());
+        Ok(())
+    }
+
+    fn fresh(&mut self, given: &[u8]) -> Result<Lent, Difference> {
+        let mut lent = Lent::new(given);
+        let number = library::fresh(&mut lent);
+        let wanted = if given.len() < STATE_BYTES { 4 } else { 0 };
+        let now = lent.bytes();
+        let right = match number {
+            0 => {
+                let fresh = state_of(now).is_some_and(|s| same_state(&s, &State::fresh()));
+                fresh && now[STATE_BYTES..] == given[STATE_BYTES..]
+            }
+            _ => now == given,
+        };
+        if number != wanted || !right || !lent.guarded() {
+            let what = if number != wanted { "the number" } else { "the state buffer" };
+            let library = format!("Z {number} {}", hex(now));
+            return Err(Difference { what: what.to_string(), second: format!("Z {wanted}"), library });
+        }
+        self.tally.call(Kind::Fresh, number);
+        Ok(lent)
+    }
+
+    fn standing(&mut self, call: &BoardCall) -> Result<(), Stop> {
+        if !self.has_profile || !self.has_flash {
+            return Err(Stop::Unfit);
+        }
+        let before = self.board.state.clone();
+        let (number, reply) = self.board.call(call)?;
+        self.board.count(&mut self.tally, call, number);
+        if let (Some(p), Some(before), Some(after)) = (&self.board.profile, &before, &self.board.state) {
+            if let BoardCall::Receive { address, frame } = call {
+                let seen = Seen::Frame { address: (*address).min(255) as u8, frame };
+                let event = event(p.bus, seen, number as u8, &reply);
+                self.tally.frame(p, before, after, number, &reply, &event);
+            }
+        }
+        Ok(())
+    }
+
+    /// On copies: whatever the call does, the standing board stays as it was.
+    fn aside(&mut self, call: &BoardCall, buffers: &Buffers) -> Result<(), Stop> {
+        if !self.has_profile || !self.has_flash {
+            return Err(Stop::Unfit);
+        }
+        let standing = &self.board;
+        let profile = buffers.profile.as_deref().unwrap_or(&standing.profile_bytes);
+        let state = buffers.state.as_deref().unwrap_or(standing.lent_state.bytes());
+        let flash_len = buffers.flash.unwrap_or(standing.flash.len()).min(standing.flash.len());
+        let flash = &standing.flash[..flash_len];
+        let mut board = Board {
+            profile: profile_of(profile),
+            state: state_of(state),
+            flash: flash.to_vec(),
+            profile_bytes: profile.to_vec(),
+            lent_profile: Lent::new(profile),
+            lent_state: Lent::new(state),
+            lent_flash: Lent::new(flash),
+            room: buffers.room.unwrap_or(standing.room),
+        };
+        let (number, _) = board.call(call)?;
+        board.count(&mut self.tally, call, number);
+        self.tally.aside += 1;
+        Ok(())
+    }
+
+    fn encode(&mut self, e: &Encode) -> Result<(), Difference> {
+        let room = self.board.room;
+        match e.code {
+            RESET_ADDRESS_CALL => self.general(e.bus, e.m, 0, room),
+            RESET_CALL => self.general(e.bus, e.m, 1, room),
+            _ => self.encode_any(e, room),
+        }
+    }
+
+    fn encode_any(&mut self, e: &Encode, room: usize) -> Result<(), Difference> {
+        let (data, mut lent) = (Lent::new(&e.data), Lent::new(&vec![UNTOUCHED; room]));
+        let got = library::encode(e.bus, e.m, e.code, e.to, e.a, e.b, &data, &mut lent);
+        // the second program's codes of general calls are no commands of childbus_encode
+        let code = if e.code == RESET_ADDRESS_CALL || e.code == RESET_CALL { u32::MAX } else { e.code };
+        let request = Request { code, destination: e.to, a: e.a, b: e.b, data: &e.data };
+        if data.bytes() != e.data || !data.guarded() {
+            return Err(Difference::only("the data was changed"));
+        }
+        self.tally.call(Kind::Encode, request_same(e.bus, e.m, &request, room, got, &lent)?);
+        Ok(())
+    }
+
+    fn general(&mut self, bus: u32, m: u32, reset: u32, room: usize) -> Result<(), Difference> {
+        let mut lent = Lent::new(&vec![UNTOUCHED; room]);
+        let got = library::general(bus, m, reset, &mut lent);
+        let code = if reset == 0 { RESET_ADDRESS_CALL } else { RESET_CALL };
+        let request = Request { code, destination: 0, a: 0, b: 0, data: &[] };
+        self.tally.call(Kind::General, request_same(bus, m, &request, room, got, &lent)?);
+        Ok(())
+    }
+
+    fn decode(&mut self, d: &Decode) -> Result<(), Difference> {
+        let reply = Lent::new(&d.reply);
+        let got = library::decode(d.bus, d.code, d.address, d.asked, &reply);
+        let wanted = match bus_of(d.bus) {
+            None => (7, 0, 0, 0),
+            Some(bus) => match master::decode(bus, d.code, d.address, d.asked, &d.reply) {
+                Ok(is) => (0, u32::from(is.status), is.start, is.length),
+                Err(number) => (u32::from(number), 0, 0, 0),
+            },
+        };
+        let line = |(number, status, start, len)| format!("D {number} {status} {start} {len}");
+        if got != wanted {
+            return Err(Difference::of("the answer", line(wanted), line(got)));
+        }
+        if reply.bytes() != d.reply || !reply.guarded() {
+            return Err(Difference::only("the reply was changed"));
+        }
+        self.tally.call(Kind::Decode, got.0);
+        if got.0 == 0 {
+            self.tally.decoded[got.1 as usize] += 1;
+        }
+        Ok(())
+    }
+
+    fn two_reads(&mut self, code: u32, asked: u32, first: &[u8], second: &[u8]) -> Result<(), Difference> {
+        let lent = (Lent::new(first), Lent::new(second));
+        let got = library::two_reads(code, asked, &lent.0, &lent.1);
+        let (which, results) = master::two_reads(code, asked, first, second);
+        let start = if which == 0 { 0 } else { 2 };
+        let wanted = (u32::from(which), start, results.len());
+        if got != wanted {
+            let part = match got.0 {
+                1 => first.get(got.1..got.1.wrapping_add(got.2)),
+                2 => second.get(got.1..got.1.wrapping_add(got.2)),
+                _ => None,
+            };
+            let library = format!("T {} {} (start {}, length {})", got.0, hex(part.unwrap_or(&[])), got.1, got.2);
+            let second = format!("T {which} {} (start {start}, length {})", hex(results), results.len());
+            return Err(Difference::of("the answer", second, library));
+        }
+        let same = lent.0.bytes() == first && lent.1.bytes() == second;
+        if !same || !lent.0.guarded() || !lent.1.guarded() {
+            return Err(Difference::only("a read was changed"));
+        }
+        self.tally.call(Kind::TwoReads, got.0);
+        Ok(())
+    }
+
+    fn version(&mut self, major: u32, minor: u32) -> Result<(), Difference> {
+        let got = library::version(major, minor);
+        let known = match u8::try_from(major) {
+            Ok(major) => master::version(major, minor.min(255) as u8),
+            Err(_) => Err(14),
+        };
+        let wanted = match known {
+            Ok((major, minor)) => (0, u32::from(major), u32::from(minor)),
+            Err(number) => (u32::from(number), 0, 0),
+        };
+        let line = |(number, major, minor)| format!("V {number} {major} {minor}");
+        if got != wanted {
+            return Err(Difference::of("the answer", line(wanted), line(got)));
+        }
+        self.tally.call(Kind::Version, got.0);
+        Ok(())
+    }
+}
+
+impl Difference {
+    fn of(what: &str, second: String, library: String) -> Difference {
+        Difference { what: what.to_string(), second, library }
+    }
+
+    fn only(what: &str) -> Difference {
+        Difference::of(what, "-".to_string(), "-".to_string())
+    }
+}
+
+fn bus_of(bus: u32) -> Option<Bus> {
+    match bus {
+        0 => Some(Bus::I2c),
+        1 => Some(Bus::Rs485),
+        _ => None,
+    }
+}
+
+/// A request of both sides; the number, if they are the same.
+fn request_same(
+    bus: u32,
+    m: u32,
+    request: &Request,
+    room: usize,
+    got: (u32, usize),
+    lent: &Lent,
+) -> Result<u32, Difference> {
+    let mut out = vec![UNTOUCHED; room];
+    let answer = match bus_of(bus) {
+        Some(bus) => master::encode(bus, m, request, &mut out),
+        None => Answer::only(2),
+    };
+    let what = output_fault(answer, &out, got, lent);
+    let Some(what) = what else {
+        return Ok(got.0);
+    };
+    let second = format!("E {} {} 1", answer.number, hex(&out[..answer.len]));
+    Err(Difference { what, second, library: format!("E {}", output_text(got, lent)) })
+}
+
+/// What differs in number, length made and output bytes.
+fn output_fault(answer: Answer, out: &[u8], got: (u32, usize), lent: &Lent) -> Option<String> {
+    if got.0 != u32::from(answer.number) {
+        return Some("the number".to_string());
+    }
+    if got.1 != answer.len {
+        return Some(format!("the length made: second {}, library {}", answer.len, got.1));
+    }
+    if let Some(text) = bytes_fault("output", out, lent.bytes()) {
+        return Some(text);
+    }
+    if !lent.guarded() {
+        return Some("bytes outside the output were written".to_string());
+    }
+    None
+}
+
+fn bytes_fault(name: &str, second: &[u8], library: &[u8]) -> Option<String> {
+    if second == library {
+        return None;
+    }
+    let k = second.iter().zip(library).position(|(a, b)| a != b)?;
+    Some(format!("{name} byte {k}: second {:02x}, library {:02x}", second[k], library[k]))
+}
+
+/// Number, bytes made, and 1 if the rest of the output is untouched.
+fn output_text(got: (u32, usize), lent: &Lent) -> String {
+    let (made, rest) = lent.bytes().split_at(got.1.min(lent.bytes().len()));
+    let untouched = lent.guarded() && rest.iter().all(|&byte| byte == UNTOUCHED);
+    format!("{} {} {}", got.0, hex(made), u8::from(untouched))
+}
+
+impl Board {
+    fn count(&self, tally: &mut Tally, call: &BoardCall, number: u32) {
+        let rs485 = self.profile_bytes.first() == Some(&1);
+        let kind = match (call, rs485) {
+            (BoardCall::Receive { .. }, false) => Kind::FrameI2c,
+            (BoardCall::Receive { .. }, true) => Kind::FrameRs485,
+            (BoardCall::Read { .. }, _) => Kind::Read,
+        };
+        tally.call(kind, number);
+        tally.most_flash = tally.most_flash.max(self.flash.len());
+    }
+
+    /// The call on both sides; number and reply, if everything is the same.
+    fn call(&mut self, call: &BoardCall) -> Result<(u32, Vec<u8>), Difference> {
+        let given = self.lent_state.bytes().to_vec();
+        let mut out = vec![UNTOUCHED; self.room];
+        let mut lent_out = Lent::new(&out);
+        let answer = self.second(call, &mut out);
+        let got = self.library(call, &mut lent_out)?;
+        let only_read = matches!(call, BoardCall::Read { .. });
+        let what = output_fault(answer, &out, got, &lent_out)
+            .or_else(|| bytes_fault("flash", &self.flash, self.lent_flash.bytes()))
+            .or_else(|| self.state_fault(&given, only_read || got.0 > 1))
+            .or_else(|| self.guard_fault());
+        let Some(what) = what else {
+            out.truncate(answer.len);
+            return Ok((got.0, out));
+        };
+        let letter = if only_read { 'I' } else { 'R' };
+        let second = format!(
+            "{letter} {} {} {} {:016x} 1",
+            answer.number,
+            hex(&out[..answer.len]),
+            state_text(self.state.as_ref()),
+            fnv(&self.flash)
+        );
+        let output = output_text(got, &lent_out);
+        let (front, ok) = output.rsplit_once(' ').unwrap_or((&output, "0"));
+        let state = state_text(state_of(self.lent_state.bytes()).as_ref());
+        let library = format!("{letter} {front} {state} {:016x} {ok}", fnv(self.lent_flash.bytes()));
+        Err(Difference { what, second, library })
+    }
+
+    /// childbus.h: a profile that the bytes don't say is number 2, such a state 4, in the order of the tests.
+    fn second(&mut self, call: &BoardCall, out: &mut [u8]) -> Answer {
+        let Some(p) = &self.profile else {
+            return Answer::only(2);
+        };
+        let Some(s) = &mut self.state else {
+            let number = refusal(p, &State::fresh(), self.flash.len(), out.len());
+            return Answer::only(number.filter(|&n| n < 4).unwrap_or(4));
+        };
+        match call {
+            // 128 and above are foreign, so that 255 stands for all numbers above it
+            BoardCall::Receive { address, frame } => {
+                board::receive(p, s, &mut self.flash, out, (*address).min(255) as u8, frame)
+            }
+            BoardCall::Read { address } => board::read(p, s, &self.flash, out, (*address).min(255) as u8),
+        }
+    }
+
+    fn library(&mut self, call: &BoardCall, out: &mut Lent) -> Result<(u32, usize), Difference> {
+        match call {
+            BoardCall::Receive { address, frame } => {
+                let lent = Lent::new(frame);
+                let (p, s, flash) = (&self.lent_profile, &mut self.lent_state, &mut self.lent_flash);
+                let got = library::receive(p, s, *address, &lent, flash, out);
+                if lent.bytes() != frame || !lent.guarded() {
+                    return Err(Difference::only("the frame was changed"));
+                }
+                Ok(got)
+            }
+            BoardCall::Read { address } => {
+                Ok(library::read(&self.lent_profile, &self.lent_state, *address, &self.lent_flash, out))
+            }
+        }
+    }
+
+    /// The very bytes where the state may not change, else its meaning; nothing past its 340 bytes.
+    fn state_fault(&self, given: &[u8], kept: bool) -> Option<String> {
+        let now = self.lent_state.bytes();
+        if kept {
+            return bytes_fault("state", given, now);
+        }
+        let same = match (&self.state, state_of(now)) {
+            (Some(second), Some(library)) => same_state(second, &library),
+            _ => false,
+        };
+        if !same {
+            return Some("the state".to_string());
+        }
+        bytes_fault("past the state", given.get(STATE_BYTES..)?, now.get(STATE_BYTES..)?)
+    }
+
+    fn guard_fault(&self) -> Option<String> {
+        if !self.lent_flash.guarded() || !self.lent_state.guarded() || !self.lent_profile.guarded() {
+            return Some("bytes outside a buffer were written".to_string());
+        }
+        bytes_fault("profile", &self.profile_bytes, self.lent_profile.bytes())
+    }
+}
+
+fn state_text(state: Option<&State>) -> String {
+    let Some(s) = state else {
+        return "(bytes that say no state)".to_string();
+    };
+    let (own, running) = (own_number(s), u8::from(s.running));
+    let (waiting, last) = (hex(s.waiting_bytes()), hex(s.last_reply()));
+    format!("{own} {running} {} {} {} {waiting} {last}", s.next, s.w, s.count)
+}

@@ -1,0 +1,326 @@
+//! The items of a list: lines of the case-file format (tests/second/FORMAT.md) and, behind `#!`, calls that only the
+//! C functions have (README.md).
+
+use rules::model::*;
+use rules::script::hex;
+
+#[derive(Clone, Debug)]
+pub enum Item {
+    Profile(Profile),
+    Flash { len: u32, a: u32, b: u32 },
+    Fresh,
+    State(Box<State>),
+    Room(usize),
+    Board(BoardCall),
+    Encode(Encode),
+    Decode(Decode),
+    TwoReads { code: u32, asked: u32, first: Vec<u8>, second: Vec<u8> },
+    Version { major: u32, minor: u32 },
+    /// A board call with buffers of its own, on copies of state and flash.
+    Aside(BoardCall, Buffers),
+    /// The request encoder with any numbers and a room of its own.
+    AsideEncode(Encode, usize),
+    General { bus: u32, m: u32, reset: u32, room: usize },
+    AsideDecode(Decode),
+    AsideVersion { major: u32, minor: u32 },
+    /// The fresh state in a buffer of this length.
+    AsideFresh(usize),
+}
+
+#[derive(Clone, Debug)]
+pub enum BoardCall {
+    Receive { address: u32, frame: Vec<u8> },
+    Read { address: u32 },
+}
+
+#[derive(Clone, Debug)]
+pub struct Encode {
+    pub bus: u32,
+    pub m: u32,
+    pub code: u32,
+    pub to: u32,
+    pub a: u32,
+    pub b: u32,
+    pub data: Vec<u8>,
+}
+
+#[derive(Clone, Debug)]
+pub struct Decode {
+    pub bus: u32,
+    pub code: u32,
+    pub address: u32,
+    pub asked: u32,
+    pub reply: Vec<u8>,
+}
+
+/// Profile bytes, state bytes, length of the flash and of the output; none: the standing one.
+#[derive(Clone, Debug, Default)]
+pub struct Buffers {
+    pub profile: Option<Vec<u8>>,
+    pub state: Option<Vec<u8>>,
+    pub flash: Option<usize>,
+    pub room: Option<usize>,
+}
+
+pub const MOST_FLASH: u32 = 131_072;
+pub const MOST_ROOM: usize = 512;
+const MOST_BYTES: usize = 600;
+
+impl Item {
+    pub fn is_call(&self) -> bool {
+        !matches!(self, Item::Profile(_) | Item::Flash { .. } | Item::Fresh | Item::State(_) | Item::Room(_))
+    }
+
+    pub fn text(&self) -> String {
+        match self {
+            Item::Profile(p) => format!(
+                "P {} {} {} {} {} {} {} {} {}",
+                p.bus as u8,
+                p.m,
+                p.s,
+                p.o,
+                p.hardware,
+                p.compatible,
+                p.actual,
+                p.version,
+                hex(&p.serial)
+            ),
+            Item::Flash { len, a, b } => format!("F {len} {a} {b}"),
+            Item::Fresh => "Z".to_string(),
+            Item::State(s) => state_line(s),
+            Item::Room(n) => format!("B {n}"),
+            Item::Board(call) => call.text(),
+            Item::Encode(e) => e.text(),
+            Item::Decode(d) => d.text(),
+            Item::TwoReads { code, asked, first, second } => {
+                format!("T {code} {asked} {} {}", hex(first), hex(second))
+            }
+            Item::Version { major, minor } => format!("V {major} {minor}"),
+            Item::Aside(call, own) => format!("#! {} {}", call.text(), own.text()),
+            Item::AsideEncode(e, room) => format!("#! {} {room}", e.text()),
+            Item::General { bus, m, reset, room } => format!("#! G {bus} {m} {reset} {room}"),
+            Item::AsideDecode(d) => format!("#! {}", d.text()),
+            Item::AsideVersion { major, minor } => format!("#! V {major} {minor}"),
+            Item::AsideFresh(len) => format!("#! Z {len}"),
+        }
+    }
+}
+
+fn state_line(s: &State) -> String {
+    let own = own_number(s);
+    let (running, numbers) = (u8::from(s.running), [s.next, s.w, s.count, s.reply_len]);
+    let [next, w, count, len] = numbers;
+    format!("S {own} {running} {next} {w} {count} {len} {} {}", hex(&s.waiting), hex(&s.reply))
+}
+
+/// The own address, 256 for the default range.
+pub fn own_number(s: &State) -> u32 {
+    match s.own {
+        rules::model::Own::DefaultRange => 256,
+        rules::model::Own::Address(address) => u32::from(address),
+    }
+}
+
+impl BoardCall {
+    fn text(&self) -> String {
+        match self {
+            BoardCall::Receive { address, frame } => format!("R {address} {}", hex(frame)),
+            BoardCall::Read { address } => format!("I {address}"),
+        }
+    }
+}
+
+impl Encode {
+    fn text(&self) -> String {
+        let Encode { bus, m, code, to, a, b, data } = self;
+        format!("E {bus} {m} {code} {to} {a} {b} {}", hex(data))
+    }
+}
+
+impl Decode {
+    fn text(&self) -> String {
+        let Decode { bus, code, address, asked, reply } = self;
+        format!("D {bus} {code} {address} {asked} {}", hex(reply))
+    }
+}
+
+impl Buffers {
+    fn text(&self) -> String {
+        let bytes = |given: &Option<Vec<u8>>| given.as_ref().map_or("=".to_string(), |b| hex(b));
+        let number = |given: Option<usize>| given.map_or("=".to_string(), |n| n.to_string());
+        format!("{} {} {} {}", bytes(&self.profile), bytes(&self.state), number(self.flash), number(self.room))
+    }
+}
+
+/// The items of a case file; a bad line is an error.
+pub fn parse(text: &str) -> Result<Vec<Item>, String> {
+    let mut items = Vec::new();
+    for (k, line) in text.lines().enumerate() {
+        match parse_line(line) {
+            Ok(Some(item)) => items.push(item),
+            Ok(None) => {}
+            Err(message) => return Err(format!("line {}: {message}", k + 1)),
+        }
+    }
+    Ok(items)
+}
+
+fn parse_line(line: &str) -> Result<Option<Item>, String> {
+    if let Some(rest) = line.strip_prefix("#! ") {
+        let words: Vec<&str> = rest.split(' ').collect();
+        return aside(words[0], &words[1..]).map(Some);
+    }
+    if line.is_empty() || line.starts_with('#') {
+        return Ok(None);
+    }
+    let words: Vec<&str> = line.split(' ').collect();
+    plain(words[0], &words[1..]).map(Some)
+}
+
+fn plain(letter: &str, f: &[&str]) -> Result<Item, String> {
+    Ok(match (letter, f) {
+        ("P", [bus, m, s, o, hardware, compatible, actual, version, serial]) => Item::Profile(Profile {
+            bus: if number(bus, 1)? == 0 { Bus::I2c } else { Bus::Rs485 },
+            m: number(m, u32::MAX)?,
+            s: number(s, u32::MAX)?,
+            o: number(o, u32::MAX)?,
+            hardware: number(hardware, 255)? as u8,
+            compatible: number(compatible, 255)? as u8,
+            actual: number(actual, 255)? as u8,
+            version: number(version, 255)? as u8,
+            serial: bytes(serial, 40)?,
+        }),
+        ("F", [len, a, b]) => Item::Flash {
+            len: number(len, MOST_FLASH)?,
+            a: number(a, u32::MAX)?,
+            b: number(b, u32::MAX)?,
+        },
+        ("Z", []) => Item::Fresh,
+        ("S", [own, running, next, w, count, len, waiting, reply]) => {
+            let own = number(own, 256)?;
+            Item::State(Box::new(State {
+                own: if own == 256 { Own::DefaultRange } else { Own::Address(own as u8) },
+                running: number(running, 1)? == 1,
+                next: number(next, u32::MAX)?,
+                w: number(w, u32::MAX)?,
+                count: number(count, u32::MAX)?,
+                reply_len: number(len, u32::MAX)?,
+                waiting: bytes(waiting, 64)?.try_into().map_err(|_| "waiting needs 64 bytes")?,
+                reply: bytes(reply, 256)?.try_into().map_err(|_| "reply needs 256 bytes")?,
+            }))
+        }
+        ("B", [n]) => Item::Room(number(n, MOST_ROOM as u32)? as usize),
+        ("R" | "I", _) => Item::Board(board_call(letter, f, 255)?),
+        ("E", _) => Item::Encode(encode(f, 1)?),
+        ("D", _) => Item::Decode(decode(f, 1, 255)?),
+        ("T", [code, asked, first, second]) => Item::TwoReads {
+            code: number(code, u32::MAX)?,
+            asked: number(asked, u32::MAX)?,
+            first: bytes(first, MOST_BYTES)?,
+            second: bytes(second, MOST_BYTES)?,
+        },
+        ("V", [major, minor]) => Item::Version { major: number(major, 255)?, minor: number(minor, 255)? },
+        _ => return Err(format!("no line of letter `{letter}` has these fields")),
+    })
+}
+
+fn aside(letter: &str, f: &[&str]) -> Result<Item, String> {
+    let all = u32::MAX;
+    Ok(match (letter, f) {
+        ("R", [call @ .., profile, state, flash, room]) | ("I", [call @ .., profile, state, flash, room]) => Item::Aside(
+            board_call(letter, call, all)?,
+            Buffers {
+                profile: given(profile, |t| bytes(t, MOST_BYTES))?,
+                state: given(state, |t| bytes(t, MOST_BYTES))?,
+                flash: given(flash, |t| number(t, MOST_FLASH).map(|n| n as usize))?,
+                room: given(room, |t| number(t, MOST_ROOM as u32).map(|n| n as usize))?,
+            },
+        ),
+        ("E", [call @ .., room]) => {
+            Item::AsideEncode(encode(call, all)?, number(room, MOST_ROOM as u32)? as usize)
+        }
+        ("G", [bus, m, reset, room]) => Item::General {
+            bus: number(bus, all)?,
+            m: number(m, all)?,
+            reset: number(reset, all)?,
+            room: number(room, MOST_ROOM as u32)? as usize,
+        },
+        ("D", _) => Item::AsideDecode(decode(f, all, all)?),
+        ("V", [major, minor]) => Item::AsideVersion { major: number(major, all)?, minor: number(minor, all)? },
+        ("Z", [len]) => Item::AsideFresh(number(len, 1000)? as usize),
+        _ => return Err(format!("no `#!` line of letter `{letter}` has these fields")),
+    })
+}
+
+fn board_call(letter: &str, f: &[&str], most: u32) -> Result<BoardCall, String> {
+    match (letter, f) {
+        ("R", [address, frame]) => {
+            Ok(BoardCall::Receive { address: number(address, most)?, frame: bytes(frame, MOST_BYTES)? })
+        }
+        ("I", [address]) => Ok(BoardCall::Read { address: number(address, most)? }),
+        _ => Err(format!("wrong number of fields after `{letter}`")),
+    }
+}
+
+fn encode(f: &[&str], most_bus: u32) -> Result<Encode, String> {
+    let [bus, m, code, to, a, b, data] = f else {
+        return Err("wrong number of fields after `E`".to_string());
+    };
+    Ok(Encode {
+        bus: number(bus, most_bus)?,
+        m: number(m, u32::MAX)?,
+        code: number(code, u32::MAX)?,
+        to: number(to, u32::MAX)?,
+        a: number(a, u32::MAX)?,
+        b: number(b, u32::MAX)?,
+        data: bytes(data, MOST_BYTES)?,
+    })
+}
+
+fn decode(f: &[&str], most_bus: u32, most_address: u32) -> Result<Decode, String> {
+    let [bus, code, address, asked, reply] = f else {
+        return Err("wrong number of fields after `D`".to_string());
+    };
+    Ok(Decode {
+        bus: number(bus, most_bus)?,
+        code: number(code, u32::MAX)?,
+        address: number(address, most_address)?,
+        asked: number(asked, u32::MAX)?,
+        reply: bytes(reply, MOST_BYTES)?,
+    })
+}
+
+fn given<T>(text: &str, read: impl Fn(&str) -> Result<T, String>) -> Result<Option<T>, String> {
+    if text == "=" {
+        return Ok(None);
+    }
+    read(text).map(Some)
+}
+
+fn number(text: &str, most: u32) -> Result<u32, String> {
+    match text.parse::<u32>() {
+        Ok(n) if n <= most && !text.starts_with('+') => Ok(n),
+        _ => Err(format!("`{text}` is not a number from 0 to {most}")),
+    }
+}
+
+fn bytes(text: &str, most: usize) -> Result<Vec<u8>, String> {
+    if text == "-" {
+        return Ok(Vec::new());
+    }
+    let digits = text.as_bytes();
+    let pairs = !digits.is_empty() && digits.len() % 2 == 0 && digits.len() / 2 <= most;
+    let read = digits.chunks(2).map(|pair| Some(digit(pair[0])? * 16 + digit(*pair.get(1)?)?));
+    match read.collect::<Option<Vec<u8>>>() {
+        Some(bytes) if pairs => Ok(bytes),
+        _ => Err(format!("not `-` or up to {most} pairs of hex digits")),
+    }
+}
+
+fn digit(c: u8) -> Option<u8> {
+    match c {
+        b'0'..=b'9' => Some(c - b'0'),
+        b'a'..=b'f' => Some(c - b'a' + 10),
+        _ => None,
+    }
+}

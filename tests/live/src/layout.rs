@@ -1,0 +1,110 @@
+//! Profile and state as byte buffers, by the layouts in include/childbus.h.
+
+use rules::model::*;
+use rules::rng::Rng;
+
+pub const PROFILE_BYTES: usize = 36;
+pub const STATE_BYTES: usize = 340;
+
+/// The profile in bytes. Ignored bytes, and up to three past the end, hold anything.
+pub fn profile_bytes(p: &Profile) -> Vec<u8> {
+    let mut rng = Rng::new(u64::from(p.m) ^ u64::from(p.actual) << 16 ^ u64::from(p.version) << 24);
+    let mut b = anything(&mut rng, PROFILE_BYTES);
+    b[0] = p.bus as u8;
+    b[1] = p.hardware;
+    b[2] = p.compatible;
+    b[3] = p.actual;
+    b[4] = p.version;
+    b[5] = p.serial.len() as u8;
+    put(&mut b, 8, p.m);
+    put(&mut b, 12, p.s);
+    put(&mut b, 16, p.o);
+    for (place, byte) in b[20..PROFILE_BYTES].iter_mut().zip(&p.serial) {
+        *place = *byte;
+    }
+    b
+}
+
+/// The profile that the bytes say; none if they are too few or the bus is no bus (number 2).
+pub fn profile_of(b: &[u8]) -> Option<Profile> {
+    if b.len() < PROFILE_BYTES {
+        return None;
+    }
+    let bus = match b[0] {
+        0 => Bus::I2c,
+        1 => Bus::Rs485,
+        _ => return None,
+    };
+    // a serial over 16 bytes is out of range, whatever its bytes
+    let serial = (0..usize::from(b[5])).map(|k| if k < 16 { b[20 + k] } else { 0 }).collect();
+    Some(Profile {
+        bus,
+        m: number(b, 8),
+        s: number(b, 12),
+        o: number(b, 16),
+        hardware: b[1],
+        compatible: b[2],
+        actual: b[3],
+        version: b[4],
+        serial,
+    })
+}
+
+/// The state in bytes. Ignored bytes, and up to three past the end, hold anything.
+pub fn state_bytes(s: &State) -> Vec<u8> {
+    let mut rng = Rng::new(u64::from(s.next) ^ u64::from(s.w) << 20 ^ u64::from(s.waiting[0]) << 32);
+    let mut b = anything(&mut rng, STATE_BYTES);
+    match s.own {
+        Own::DefaultRange => b[0] = 0,
+        Own::Address(address) => {
+            b[0] = 1;
+            b[1] = address;
+        }
+    }
+    b[2] = u8::from(s.running);
+    put(&mut b, 4, s.next);
+    put(&mut b, 8, s.w);
+    put(&mut b, 12, s.count);
+    put(&mut b, 16, s.reply_len);
+    b[20..84].copy_from_slice(&s.waiting);
+    b[84..STATE_BYTES].copy_from_slice(&s.reply);
+    b
+}
+
+/// The state that the bytes say; none if they are too few, or the address kind or the running byte is above 1 (number 4).
+pub fn state_of(b: &[u8]) -> Option<State> {
+    if b.len() < STATE_BYTES || b[0] > 1 || b[2] > 1 {
+        return None;
+    }
+    let mut s = State::fresh();
+    if b[0] == 1 {
+        s.own = Own::Address(b[1]);
+    }
+    s.running = b[2] == 1;
+    s.next = number(b, 4);
+    s.w = number(b, 8);
+    s.count = number(b, 12);
+    s.reply_len = number(b, 16);
+    s.waiting.copy_from_slice(&b[20..84]);
+    s.reply.copy_from_slice(&b[84..STATE_BYTES]);
+    Some(s)
+}
+
+/// States that differ only in bytes without meaning are the same.
+pub fn same_state(a: &State, b: &State) -> bool {
+    let numbers = |s: &State| (s.own, s.running, s.next, s.w, s.count, s.reply_len);
+    numbers(a) == numbers(b) && a.waiting_bytes() == b.waiting_bytes() && a.last_reply() == b.last_reply()
+}
+
+fn anything(rng: &mut Rng, least: usize) -> Vec<u8> {
+    let more = rng.below(4) as usize;
+    rng.bytes(least + more)
+}
+
+pub fn put(b: &mut [u8], at: usize, number: u32) {
+    b[at..at + 4].copy_from_slice(&number.to_le_bytes());
+}
+
+fn number(b: &[u8], at: usize) -> u32 {
+    u32::from_le_bytes([b[at], b[at + 1], b[at + 2], b[at + 3]])
+}

@@ -1,0 +1,373 @@
+//! Random lists. Most are the second program's own; some are whole uploads, repeated in other pieces. Calls that only
+//! the C functions have, and longer requests and replies, are put in between.
+
+use crate::cases::{self, most_data, most_results, reply, Sheet, BUSES};
+use crate::items::*;
+use crate::layout::{profile_bytes, put, state_bytes, PROFILE_BYTES, STATE_BYTES};
+use rules::check::{framed, general_frame, write_frame};
+use rules::model::*;
+use rules::rng::Rng;
+
+/// List number `k` of a seed.
+pub fn list(seed: u64, k: u64) -> Vec<Item> {
+    let mut rng = Rng::new(seed ^ k.wrapping_mul(0xd6e8_feb8_6659_fd93));
+    let text = match rng.below(400) {
+        0 => upload(&mut rng, &[65_472, 65_472, 32_768]),
+        1..=40 => upload(&mut rng, &[64, 128, 192, 512, 1024, 2048, 4096]),
+        _ => cases::random(rng.number(), 1).cases,
+    };
+    let items = parse(&text).expect("the generator writes good lines");
+    with_more(&mut rng, items)
+}
+
+/// A whole upload, then the same image in other pieces, with other calls in between.
+fn upload(rng: &mut Rng, sizes: &[u64]) -> String {
+    let bus = BUSES[rng.below(2) as usize];
+    let m = rng.of(&[32, 33, 70, 72, 128, 200, 256, 256, 256]) as u32;
+    let s = rng.of(sizes) as u32;
+    let o = rng.of(&[0, 0, 64, 65_472]) as u32;
+    let m = if s > 10_000 { 256 } else { m };
+    let mut sheet = Sheet::default();
+    sheet.board(bus, m, s, o);
+    let length = if rng.percent(60) { s as usize } else { rng.below(u64::from(s) + 1) as usize };
+    let mut image = rng.bytes(length);
+    let noise = rng.of(&[0, 0, 1, 5]);
+    for turn in 0..2 + rng.below(2) {
+        if turn == 1 && rng.percent(30) {
+            damage_one(rng, &mut image);
+        }
+        let most = most_data(bus, m) as u64;
+        let piece = if s > 10_000 { most } else { rng.of(&[most, most, most - 1, 20, 64.min(most)]) };
+        upload_once(&mut sheet, rng, &image, piece as usize, noise);
+        sheet.finalize();
+    }
+    if s <= 4096 {
+        sheet.read_back(u64::from(s), most_results(bus, m).min(255) as u8);
+    }
+    sheet.cases
+}
+
+fn damage_one(rng: &mut Rng, image: &mut [u8]) {
+    let k = rng.below(image.len() as u64) as usize;
+    if let Some(byte) = image.get_mut(k) {
+        *byte ^= 1 << rng.below(8);
+    }
+}
+
+fn upload_once(sheet: &mut Sheet, rng: &mut Rng, image: &[u8], piece: usize, noise: u64) {
+    let mut at = 0;
+    loop {
+        if rng.percent(noise) {
+            between(sheet, rng);
+        }
+        let end = (at + piece).min(image.len());
+        sheet.write(at as u64, &image[at..end]);
+        if end == image.len() {
+            return;
+        }
+        at = end;
+    }
+}
+
+/// A call that leaves the upload where it is.
+fn between(sheet: &mut Sheet, rng: &mut Rng) {
+    let own = sheet.own();
+    match rng.below(8) {
+        0 => sheet.finalize(),
+        1 => sheet.read_flash(rng.below(64), rng.below(28) as u8),
+        2 => sheet.read(own),
+        3 => sheet.general(4),
+        4 => {
+            let address = 1 + rng.byte() % 127;
+            sheet.send(SET_ADDRESS, &[address, 0]);
+        }
+        5 => sheet.send(HARDWARE_INFO, &[]),
+        6 => {
+            let mut frame = framed(sheet.bus(), own, FINALIZE, &[]);
+            damage_one(rng, &mut frame);
+            sheet.frame(own, &frame);
+        }
+        _ => {
+            let frame = framed(sheet.bus(), own ^ 64, VERSION, &[]);
+            sheet.frame(own ^ 64, &frame);
+        }
+    }
+}
+
+/// More calls, one for each four items or so. None of them changes the board.
+fn with_more(rng: &mut Rng, items: Vec<Item>) -> Vec<Item> {
+    let mut list = Vec::with_capacity(items.len() * 5 / 4);
+    let mut profile = None;
+    let mut has_flash = false;
+    let mut large = false;
+    for item in items {
+        match &item {
+            Item::Profile(p) => profile = Some(p.clone()),
+            Item::Flash { len, .. } => {
+                has_flash = true;
+                large = *len > 10_000;
+            }
+            _ => {}
+        }
+        list.push(item);
+        match &profile {
+            // a copy of a large flash takes time
+            Some(p) if has_flash && rng.percent(if large { 1 } else { 25 }) => list.push(more(rng, p)),
+            _ => {}
+        }
+    }
+    list
+}
+
+fn more(rng: &mut Rng, p: &Profile) -> Item {
+    match rng.below(12) {
+        0..=4 => aside(rng, p),
+        5 => Item::AsideEncode(any_encode(rng), rng.of(&[0, 1, 3, 4, 5, 7, 8, 31, 32, 255, 256, 257, 300]) as usize),
+        6 => exact_encode(rng),
+        7 => Item::General {
+            bus: any_bus(rng),
+            m: rng.of(&[31, 32, 64, 256, 256, 257, 288, 65_568]) as u32,
+            reset: rng.of(&[0, 0, 1, 2, 256, 4_294_967_295]) as u32,
+            room: rng.of(&[0, 1, 1, 2, 3, 4, 5, 256]) as usize,
+        },
+        8 | 9 => any_decode(rng),
+        10 => two_reads(rng),
+        _ => match rng.below(3) {
+            0 => Item::AsideFresh(rng.of(&[0, 1, 84, 339, 340, 341, 400]) as usize),
+            _ => Item::AsideVersion {
+                major: rng.of(&[0, 1, 2, 2, 3, 255, 256, 257, 258, 65_538, 4_294_967_295]) as u32,
+                minor: rng.of(&[0, 1, 2, 3, 255, 256, 257, 4_294_967_295]) as u32,
+            },
+        },
+    }
+}
+
+fn any_bus(rng: &mut Rng) -> u32 {
+    rng.of(&[0, 0, 0, 0, 1, 1, 1, 1, 2, 9, 256, 257, 4_294_967_295]) as u32
+}
+
+/// A board call with a profile, a state, a flash or an output of its own.
+fn aside(rng: &mut Rng, p: &Profile) -> Item {
+    let state = any_state(rng, p);
+    let call = any_board_call(rng, p, &state);
+    let need = (u64::from(p.o) + u64::from(p.s)).min(u64::from(MOST_FLASH)) as usize;
+    let mut buffers = Buffers { state: Some(state_bytes(&state)), ..Buffers::default() };
+    if rng.percent(35) {
+        buffers.profile = Some(any_profile_bytes(rng, p));
+    }
+    if rng.percent(35) {
+        buffers.state = Some(any_state_bytes(rng, &state));
+    }
+    if rng.percent(12) {
+        buffers.flash = Some(rng.of(&[0, 1, need as u64 - 1, need as u64]) as usize);
+    }
+    if rng.percent(15) {
+        let m = u64::from(p.m).min(MOST_ROOM as u64);
+        buffers.room = Some(rng.of(&[0, 31, m.saturating_sub(1), m]) as usize);
+    }
+    Item::Aside(call, buffers)
+}
+
+fn any_state(rng: &mut Rng, p: &Profile) -> State {
+    let mut s = State::fresh();
+    if rng.percent(30) {
+        s.own = Own::Address(rng.byte());
+    }
+    s.running = rng.percent(8);
+    s.next = if rng.percent(20) { p.s } else { rng.below(u64::from(p.s) + 1) as u32 };
+    s.w = rng.below(u64::from(s.next % 64) + 1) as u32;
+    s.count = if rng.percent(20) { s.next - s.w } else { rng.below(u64::from(s.next - s.w) + 1) as u32 };
+    if p.bus == Bus::I2c && rng.percent(60) {
+        s.reply_len = if rng.percent(20) { p.m } else { rng.below(u64::from(p.m) + 1) as u32 };
+    }
+    s.waiting.copy_from_slice(&rng.bytes(64));
+    s.reply.copy_from_slice(&rng.bytes(256));
+    s
+}
+
+fn any_board_call(rng: &mut Rng, p: &Profile, s: &State) -> BoardCall {
+    let own = match s.own {
+        Own::DefaultRange => 8 + rng.byte() % 8,
+        Own::Address(address) => address,
+    };
+    // numbers that are the own address in their low seven or eight bits
+    let address = u32::from(own) + rng.of(&[0, 0, 0, 0, 0, 0, 0, 128, 256, 65_536, 4_294_967_040]) as u32;
+    if rng.percent(15) {
+        return BoardCall::Read { address };
+    }
+    let most = most_data(p.bus, p.m).min(260) as u64;
+    let next = u64::from(s.next);
+    let left = u64::from(p.s).saturating_sub(next);
+    let frame = match rng.below(12) {
+        0..=5 => {
+            let at = rng.of(&[0, next, next, next, next, next + 1]);
+            let length = rng.of(&[0, 1, most, most, left, left + 1, 64 - next % 64]).min(most);
+            write_frame(p.bus, own, at, &rng.bytes(length as usize))
+        }
+        6 | 7 => framed(p.bus, own, FINALIZE, &[]),
+        8 => general_frame(p.bus, if rng.percent(50) { 4 } else { 6 }),
+        9 => framed(p.bus, own, START, &[]),
+        _ => {
+            let (code, length) = (rng.byte() % 16, rng.below(5) as usize);
+            framed(p.bus, own, code, &rng.bytes(length))
+        }
+    };
+    let general = frame == general_frame(p.bus, 4) || frame == general_frame(p.bus, 6);
+    BoardCall::Receive { address: if general { address - u32::from(own) } else { address }, frame }
+}
+
+/// One field that the bytes can hold and the profile can't, a short buffer, or a longer one.
+fn any_profile_bytes(rng: &mut Rng, p: &Profile) -> Vec<u8> {
+    let mut b = profile_bytes(p);
+    let number = any_number(rng);
+    match rng.below(10) {
+        0 | 1 => b.truncate(rng.below(PROFILE_BYTES as u64) as usize),
+        2 | 3 => b[0] = rng.of(&[0, 1, 2, 9, 128, 255]) as u8,
+        4 => b[5] = rng.of(&[0, 15, 16, 17, 255]) as u8,
+        5 => put(&mut b, 8, number),
+        6 => put(&mut b, 12, number),
+        7 => put(&mut b, 16, number),
+        8 => b[1] = 0,
+        _ => {
+            let more = rng.below(60) as usize;
+            b.extend(rng.bytes(more));
+        }
+    }
+    b
+}
+
+/// The same for a state.
+fn any_state_bytes(rng: &mut Rng, s: &State) -> Vec<u8> {
+    let mut b = state_bytes(s);
+    let number = any_number(rng);
+    match rng.below(10) {
+        0 => b.truncate(rng.below(STATE_BYTES as u64) as usize),
+        1 => b.truncate(STATE_BYTES - 1),
+        2 | 3 => b[0] = rng.of(&[0, 1, 2, 7, 255]) as u8,
+        4 | 5 => b[2] = rng.of(&[0, 1, 2, 7, 255]) as u8,
+        6 => {
+            let at = rng.of(&[4, 8, 12, 16]) as usize;
+            put(&mut b, at, number);
+        }
+        7 => {
+            // one more than the field can hold
+            let at = rng.of(&[4, 8, 12, 16]) as usize;
+            let more = [(4, s.next), (8, s.next % 64), (12, s.next - s.w), (16, 256)];
+            let most = more.iter().find(|(place, _)| *place == at).map_or(0, |(_, most)| *most);
+            put(&mut b, at, most + 1);
+        }
+        8 => {
+            let more = rng.below(60) as usize;
+            b.extend(rng.bytes(more));
+        }
+        _ => {
+            let all = rng.bytes(STATE_BYTES);
+            b[20..STATE_BYTES].copy_from_slice(&all[20..]);
+        }
+    }
+    b
+}
+
+fn any_number(rng: &mut Rng) -> u32 {
+    match rng.below(3) {
+        0 => rng.number() as u32,
+        _ => {
+            let low = rng.of(&[0, 1, 31, 32, 63, 64, 65, 128, 255, 256, 257, 65_472, 65_473, 65_536]) as u32;
+            let high = rng.of(&[0, 0, 0, 65_536, 16_777_216, 2_147_483_648]) as u32;
+            low.wrapping_add(high)
+        }
+    }
+}
+
+fn any_encode(rng: &mut Rng) -> Encode {
+    let length = rng.of(&[0, 1, 26, 27, 28, 29, 122, 124, 250, 251, 252, 253, 300]) as usize;
+    Encode {
+        bus: any_bus(rng),
+        m: rng.of(&[31, 32, 32, 33, 128, 255, 256, 256, 256, 257, 65_568]) as u32,
+        code: rng.of(&[0, 1, 3, 6, 6, 6, 7, 8, 8, 8, 12, 2, 10, 15, 255, 256, 260, 262, 65_536]) as u32,
+        to: rng.of(&[8, 8, 9, 100, 127, 128, 255, 256, 264, 0, 4_294_967_295]) as u32,
+        a: rng.of(&[0, 1, 127, 128, 255, 256, 65_535, 65_535, 65_536, 4_294_967_295]) as u32,
+        b: rng.of(&[0, 1, 27, 28, 29, 30, 251, 252, 253, 254, 255, 256, 4_294_967_295]) as u32,
+        data: rng.bytes(length),
+    }
+}
+
+/// A good request, into a room that is just enough or one byte less.
+fn exact_encode(rng: &mut Rng) -> Item {
+    let bus = rng.below(2) as u32;
+    let m = 32 + rng.below(225) as u32;
+    let code = rng.of(&[0, 1, 3, 4, 5, 6, 6, 6, 7, 8, 9, 12]) as u32;
+    let most = most_data(BUSES[bus as usize], m) as u64;
+    let length = rng.of(&[0, 1, most, rng_up_to(rng.number(), most)]);
+    let args = match code {
+        1 => 2,
+        6 => 2 + length,
+        8 => 3,
+        _ => 0,
+    };
+    let whole = args + if bus == 0 { 2 } else { 4 };
+    let encode = Encode {
+        bus,
+        m,
+        code,
+        to: 1 + rng.below(127) as u32,
+        a: rng.below(if code == 1 { 128 } else { 65_536 }) as u32,
+        b: rng.below(u64::from(m) - 4) as u32,
+        data: rng.bytes(length as usize),
+    };
+    Item::AsideEncode(encode, (whole - rng.below(2)) as usize)
+}
+
+fn rng_up_to(number: u64, most: u64) -> u64 {
+    number % (most + 1)
+}
+
+fn any_reply(rng: &mut Rng, bus: Bus, address: u8) -> Vec<u8> {
+    let status = rng.of(&[0, 0, 0, 0, 1, 2, 3, 4, 5, 6, 255]) as u8;
+    let length = rng.of(&[0, 1, 2, 4, 5, 27, 28, 100, 251, 253, 255]);
+    let length = if rng.percent(30) { rng.below(256) } else { length };
+    let mut bytes = reply(bus, address, status, &rng.bytes(length as usize));
+    match rng.below(8) {
+        0 => damage_one(rng, &mut bytes),
+        1 => bytes.truncate(rng.below(bytes.len() as u64) as usize),
+        2 => {
+            let more = 1 + rng.below(4) as usize;
+            bytes.extend(rng.bytes(more));
+        }
+        3 => {
+            // another length byte
+            let at = if bus == Bus::I2c { 1 } else { 2 };
+            bytes[at] = bytes[at].wrapping_add(rng.of(&[1, 255, 2, 128]) as u8);
+        }
+        _ => {}
+    }
+    bytes
+}
+
+fn any_decode(rng: &mut Rng) -> Item {
+    let bus = any_bus(rng);
+    let from = rng.of(&[8, 9, 0, 255]) as u8;
+    let bytes = any_reply(rng, BUSES[(bus % 2) as usize], from);
+    Item::AsideDecode(Decode {
+        bus,
+        code: rng.of(&[0, 1, 3, 4, 5, 6, 7, 8, 8, 8, 9, 12, 2, 13, 15, 256, 264, 4_294_967_295]) as u32,
+        address: u32::from(from) + rng.of(&[0, 0, 0, 0, 1, 256, 65_536]) as u32,
+        asked: rng.of(&[0, 1, 27, 28, 100, 253, 255, 256, 4_294_967_295]) as u32,
+        reply: bytes,
+    })
+}
+
+fn two_reads(rng: &mut Rng) -> Item {
+    let first = any_reply(rng, Bus::I2c, 0);
+    let mut second = if rng.percent(50) { first.clone() } else { any_reply(rng, Bus::I2c, 0) };
+    let mut first = first;
+    if rng.percent(60) {
+        damage_one(rng, &mut first);
+    }
+    if rng.percent(20) {
+        damage_one(rng, &mut second);
+    }
+    let code = rng.of(&[0, 3, 7, 8, 8, 9, 12, 4, 13, 256]) as u32;
+    let asked = rng.of(&[0, 1, 27, 100, 253, 255, 4_294_967_295]) as u32;
+    Item::TwoReads { code, asked, first, second }
+}

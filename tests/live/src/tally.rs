@@ -1,0 +1,167 @@
+//! What was compared: calls of each kind by number, and what happened in them.
+
+use rules::book::Event;
+use rules::model::*;
+
+#[derive(Clone, Copy)]
+pub enum Kind {
+    FrameI2c,
+    FrameRs485,
+    Read,
+    Encode,
+    General,
+    Decode,
+    TwoReads,
+    Version,
+    Fresh,
+}
+
+const KINDS: usize = 9;
+const NUMBERS: usize = 15;
+
+/// Name, and the numbers that its calls can answer.
+const ROWS: [(&str, &[usize]); KINDS] = [
+    ("frame, I2C", &[0, 1, 2, 3, 4, 5]),
+    ("frame, RS485", &[0, 1, 2, 3, 4, 5]),
+    ("I2C read", &[0, 1, 2, 3, 4, 5]),
+    ("encoder", &[0, 2, 6, 7]),
+    ("general call", &[0, 2, 6]),
+    ("decoder", &[0, 7, 8, 9, 10, 11, 12, 13]),
+    ("two reads", &[0, 1, 2]),
+    ("version rule", &[0, 14]),
+    ("fresh state", &[0, 4]),
+];
+
+/// A run of so many calls in which something never happened has shown too little.
+pub const ENOUGH: u64 = 20_000;
+
+#[derive(Default)]
+pub struct Tally {
+    pub calls: u64,
+    pub aside: u64,
+    pub most_flash: usize,
+    numbers: [[u64; NUMBERS]; KINDS],
+    /// Decoded replies by status.
+    pub decoded: [u64; 6],
+    /// Replies to frames by status.
+    statuses: [u64; 6],
+    writes: u64,
+    bytes: u64,
+    commits: u64,
+    unchanged: u64,
+    finalizes: u64,
+    repeats: u64,
+    full: u64,
+    resets: u64,
+    address_resets: u64,
+    addresses: u64,
+    starts: u64,
+    silent: u64,
+}
+
+impl Tally {
+    pub fn call(&mut self, kind: Kind, number: u32) {
+        self.calls += 1;
+        self.numbers[kind as usize][(number as usize).min(NUMBERS - 1)] += 1;
+    }
+
+    /// A frame to the standing board, from the second program's states.
+    pub fn frame(&mut self, p: &Profile, before: &State, after: &State, number: u32, reply: &[u8], event: &Event) {
+        if number > 1 {
+            return;
+        }
+        let status = reply.get(if p.bus == Bus::I2c { 0 } else { 1 });
+        if let (0, Some(&status)) = (number, status) {
+            self.statuses[usize::from(status).min(5)] += 1;
+        }
+        match event {
+            Event::Reset => self.resets += 1,
+            Event::Write { address, data } => self.write(before, after, *address == 0, data.len()),
+            Event::Finalize { told } => self.finalize(p, before, after, *told),
+            Event::Other => self.other(before, after, number),
+        }
+    }
+
+    fn write(&mut self, before: &State, after: &State, at_zero: bool, len: usize) {
+        let (next, count) = if at_zero { (0, 0) } else { (before.next, before.count) };
+        let ends = u64::from(after.next / 64 - next / 64);
+        let commits = u64::from(after.count - count);
+        self.writes += 1;
+        self.bytes += len as u64;
+        self.commits += commits;
+        self.unchanged += ends - commits;
+    }
+
+    fn finalize(&mut self, p: &Profile, before: &State, after: &State, told: u64) {
+        let commits = u64::from(after.count - before.count);
+        self.finalizes += 1;
+        self.commits += commits;
+        self.unchanged += u64::from(before.w > 0) - commits;
+        self.repeats += u64::from(told == 0 && after.next > 0);
+        self.full += u64::from(after.next == p.s);
+    }
+
+    fn other(&mut self, before: &State, after: &State, number: u32) {
+        if after.running {
+            self.starts += u64::from(!before.running);
+            self.silent += u64::from(before.running);
+            return;
+        }
+        if before.own != after.own {
+            match after.own {
+                Own::Address(_) => self.addresses += 1,
+                Own::DefaultRange => self.address_resets += u64::from(number == 1),
+            }
+        }
+    }
+
+    fn happened(&self) -> [(&'static str, u64); 12] {
+        [
+            ("accepted writes", self.writes),
+            ("bytes in them", self.bytes),
+            ("commits that changed a page", self.commits),
+            ("commits that changed nothing", self.unchanged),
+            ("finalizes", self.finalizes),
+            ("of them with count 0 after accepted bytes", self.repeats),
+            ("of them with next = S", self.full),
+            ("resets", self.resets),
+            ("address resets that changed the address", self.address_resets),
+            ("addresses set", self.addresses),
+            ("starts", self.starts),
+            ("frames while running", self.silent),
+        ]
+    }
+
+    pub fn lines(&self) -> Vec<String> {
+        let head: String = (0..NUMBERS).map(|n| format!("{n:>9}")).collect();
+        let mut lines = vec![format!("{:<14}{head}", "answers")];
+        for ((name, _), row) in ROWS.iter().zip(&self.numbers) {
+            let cells: String =
+                row.iter().map(|&n| if n == 0 { format!("{:>9}", ".") } else { format!("{n:>9}") }).collect();
+            lines.push(format!("{name:<14}{cells}"));
+        }
+        lines.push(format!("replies to frames by status 0 to 5: {}", listed(&self.statuses)));
+        lines.push(format!("decoded replies by status 0 to 5: {}", listed(&self.decoded)));
+        let parts: Vec<String> = self.happened().iter().map(|(name, n)| format!("{name} {n}")).collect();
+        lines.push(parts.join(", "));
+        lines.push(format!("calls with buffers of their own {}, longest flash {}", self.aside, self.most_flash));
+        lines
+    }
+
+    /// What never happened though it can.
+    pub fn missing(&self) -> Vec<String> {
+        let mut missing = Vec::new();
+        for ((name, possible), row) in ROWS.iter().zip(&self.numbers) {
+            missing.extend(possible.iter().filter(|&&n| row[n] == 0).map(|n| format!("{name}: number {n}")));
+        }
+        // this board never says COMMAND_FAILED
+        missing.extend([0, 2, 3, 4, 5].iter().filter(|&&s| self.statuses[s] == 0).map(|s| format!("status {s}")));
+        missing.extend((0..6).filter(|&s| self.decoded[s] == 0).map(|s| format!("decoded status {s}")));
+        missing.extend(self.happened().iter().filter(|(_, n)| *n == 0).map(|(name, _)| name.to_string()));
+        missing
+    }
+}
+
+fn listed(numbers: &[u64]) -> String {
+    numbers.iter().map(u64::to_string).collect::<Vec<String>>().join(" ")
+}
