@@ -2,3 +2,8 @@ pub mod Made
 pub mod Requests
 pub mod Spoken
 pub mod Replies
+pub mod Exchange
+pub mod Encodes
+pub mod Written
+pub mod Shown
+pub mod Uploads

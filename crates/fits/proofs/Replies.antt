@@ -68,11 +68,11 @@ withLast-last : (b : Bus) (s : State) (r : List ℕ) → b ≡ I2c → withLast 
 withLast-last I2c s r e = refl
 withLast-last Rs485 s r e = cc
 
-withLast-running : (b : Bus) (s : State) (r : List ℕ) → withLast b s r .running ≡ s .running
+pub withLast-running : (b : Bus) (s : State) (r : List ℕ) → withLast b s r .running ≡ s .running
 withLast-running I2c s r = refl
 withLast-running Rs485 s r = refl
 
-withLast-address : (b : Bus) (s : State) (r : List ℕ) → withLast b s r .address ≡ s .address
+pub withLast-address : (b : Bus) (s : State) (r : List ℕ) → withLast b s r .address ≡ s .address
 withLast-address I2c s r = refl
 withLast-address Rs485 s r = refl
 

@@ -2,3 +2,5 @@
 pub mod Sending
 pub mod Understood
 pub mod ReadBack
+pub mod Talk
+pub mod UploadSeen

@@ -9,3 +9,4 @@ pub mod BoardLaws
 pub mod VerdictLaws
 pub mod FrameLaws
 pub mod ArgumentLaws
+pub mod ImageLaws

@@ -32,6 +32,12 @@ unfolding committed
 next-committed p g =
     by-test (same (found p g) (overlay (found p g) ((g .upload .next - length (g .upload .waiting)) % p .page) (g .upload .waiting))) (λ e. rw e) (λ e. rw e)
 
+-- and a commit leaves nothing waiting
+pub waiting-committed : (p : Profile) (g : Progress) → committed p g .upload .waiting ≡ []
+unfolding committed
+waiting-committed p g =
+    by-test (same (found p g) (overlay (found p g) ((g .upload .next - length (g .upload .waiting)) % p .page) (g .upload .waiting))) (λ e. rw e) (λ e. rw e)
+
 pub next-taken : (p : Profile) (g : Progress) (b : ℕ) → taken p g b .upload .next ≡ g .upload .next + 1
 unfolding taken
 next-taken p g b = by-test (eqb ((g .upload .next + 1) % p .page) 0) (λ e. rw e (next-committed p _)) (λ e. rw e)
@@ -82,14 +88,14 @@ committed-kept p g f some paid =
 -- one accepted byte: it joins the waiting ones, and at the end of a page all of them are committed
 module _ (p : Profile) (facts : ProfileFacts p) (g : Progress) (b : ℕ) where
   -- the byte has joined
-  abbrev more : Upload
+  abbrev pub more : Upload
   more = record { next = g .upload .next + 1; waiting = g .upload .waiting ++ (b ∷ []); count = g .upload .count }
 
-  length-more : length (more .waiting) ≡ length (g .upload .waiting) + 1
+  pub length-more : length (more .waiting) ≡ length (g .upload .waiting) + 1
   length-more = length-append (g .upload .waiting) (b ∷ [])
 
   module _ (room : p .offset + p .size ≤ length (g .flash)) (formed : UploadFacts (p .page) (p .size) (g .upload)) (below : g .upload .next < p .size) where
-    more-fitting : Fitting p (record { upload = more; flash = g .flash })
+    pub more-fitting : Fitting p (record { upload = more; flash = g .flash })
     more-fitting =
         let pos : 0 < p .page = omega (arith, facts .page-is) in
         let start : more .next - length (more .waiting) ≡ g .upload .next - length (g .upload .waiting) = omega (arith, length-more) in

@@ -7,22 +7,42 @@ use rules::script::hex;
 #[derive(Clone, Debug)]
 pub enum Item {
     Profile(Profile),
-    Flash { len: u32, a: u32, b: u32 },
+    Flash {
+        len: u32,
+        a: u32,
+        b: u32,
+    },
     Fresh,
     State(Box<State>),
     Room(usize),
     Board(BoardCall),
     Encode(Encode),
     Decode(Decode),
-    TwoReads { code: u32, asked: u32, first: Vec<u8>, second: Vec<u8> },
-    Version { major: u32, minor: u32 },
+    TwoReads {
+        code: u32,
+        asked: u32,
+        first: Vec<u8>,
+        second: Vec<u8>,
+    },
+    Version {
+        major: u32,
+        minor: u32,
+    },
     /// A board call with buffers of its own, on copies of state and flash.
     Aside(BoardCall, Buffers),
     /// The request encoder with any numbers and a room of its own.
     AsideEncode(Encode, usize),
-    General { bus: u32, m: u32, reset: u32, room: usize },
+    General {
+        bus: u32,
+        m: u32,
+        reset: u32,
+        room: usize,
+    },
     AsideDecode(Decode),
-    AsideVersion { major: u32, minor: u32 },
+    AsideVersion {
+        major: u32,
+        minor: u32,
+    },
     /// The fresh state in a buffer of this length.
     AsideFresh(usize),
 }
@@ -67,10 +87,6 @@ pub const MOST_ROOM: usize = 512;
 const MOST_BYTES: usize = 600;
 
 impl Item {
-    pub fn is_call(&self) -> bool {
-        !matches!(self, Item::Profile(_) | Item::Flash { .. } | Item::Fresh | Item::State(_) | Item::Room(_))
-    }
-
     pub fn text(&self) -> String {
         match self {
             Item::Profile(p) => format!(
@@ -190,11 +206,9 @@ fn plain(letter: &str, f: &[&str]) -> Result<Item, String> {
             version: number(version, 255)? as u8,
             serial: bytes(serial, 40)?,
         }),
-        ("F", [len, a, b]) => Item::Flash {
-            len: number(len, MOST_FLASH)?,
-            a: number(a, u32::MAX)?,
-            b: number(b, u32::MAX)?,
-        },
+        ("F", [len, a, b]) => {
+            Item::Flash { len: number(len, MOST_FLASH)?, a: number(a, u32::MAX)?, b: number(b, u32::MAX)? }
+        }
         ("Z", []) => Item::Fresh,
         ("S", [own, running, next, w, count, len, waiting, reply]) => {
             let own = number(own, 256)?;
@@ -227,18 +241,18 @@ fn plain(letter: &str, f: &[&str]) -> Result<Item, String> {
 fn aside(letter: &str, f: &[&str]) -> Result<Item, String> {
     let all = u32::MAX;
     Ok(match (letter, f) {
-        ("R", [call @ .., profile, state, flash, room]) | ("I", [call @ .., profile, state, flash, room]) => Item::Aside(
-            board_call(letter, call, all)?,
-            Buffers {
-                profile: given(profile, |t| bytes(t, MOST_BYTES))?,
-                state: given(state, |t| bytes(t, MOST_BYTES))?,
-                flash: given(flash, |t| number(t, MOST_FLASH).map(|n| n as usize))?,
-                room: given(room, |t| number(t, MOST_ROOM as u32).map(|n| n as usize))?,
-            },
-        ),
-        ("E", [call @ .., room]) => {
-            Item::AsideEncode(encode(call, all)?, number(room, MOST_ROOM as u32)? as usize)
+        ("R", [call @ .., profile, state, flash, room]) | ("I", [call @ .., profile, state, flash, room]) => {
+            Item::Aside(
+                board_call(letter, call, all)?,
+                Buffers {
+                    profile: given(profile, |t| bytes(t, MOST_BYTES))?,
+                    state: given(state, |t| bytes(t, MOST_BYTES))?,
+                    flash: given(flash, |t| number(t, MOST_FLASH).map(|n| n as usize))?,
+                    room: given(room, |t| number(t, MOST_ROOM as u32).map(|n| n as usize))?,
+                },
+            )
         }
+        ("E", [call @ .., room]) => Item::AsideEncode(encode(call, all)?, number(room, MOST_ROOM as u32)? as usize),
         ("G", [bus, m, reset, room]) => Item::General {
             bus: number(bus, all)?,
             m: number(m, all)?,

@@ -71,7 +71,7 @@ pub fn state_bytes(s: &State) -> Vec<u8> {
     b
 }
 
-/// The state that the bytes say; none if they are too few, or the address kind or the running byte is above 1 (number 4).
+/// The state that the bytes say; none if they are too few, or address kind or running byte is above 1 (number 4).
 pub fn state_of(b: &[u8]) -> Option<State> {
     if b.len() < STATE_BYTES || b[0] > 1 || b[2] > 1 {
         return None;

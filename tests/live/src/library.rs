@@ -148,16 +148,7 @@ pub fn read(profile: &Lent, state: &Lent, address: u32, flash: &Lent, out: &mut 
 
 /// The number, and the length of the request.
 #[allow(clippy::too_many_arguments)]
-pub fn encode(
-    bus: u32,
-    m: u32,
-    code: u32,
-    to: u32,
-    a: u32,
-    b: u32,
-    data: &Lent,
-    out: &mut Lent,
-) -> (u32, usize) {
+pub fn encode(bus: u32, m: u32, code: u32, to: u32, a: u32, b: u32, data: &Lent, out: &mut Lent) -> (u32, usize) {
     let ((d, dn), (o, on)) = (data.read(), out.write());
     let mut made = UNSET;
     let number = unsafe { c::childbus_encode(bus, m, code, to, a, b, d, dn, o, on, &mut made) };
@@ -176,8 +167,7 @@ pub fn general(bus: u32, m: u32, reset: u32, out: &mut Lent) -> (u32, usize) {
 pub fn decode(bus: u32, code: u32, address: u32, asked: u32, reply: &Lent) -> (u32, u32, usize, usize) {
     let (r, rn) = reply.read();
     let (mut status, mut start, mut len) = (UNSET as u32, UNSET, UNSET);
-    let number =
-        unsafe { c::childbus_decode(bus, code, address, asked, r, rn, &mut status, &mut start, &mut len) };
+    let number = unsafe { c::childbus_decode(bus, code, address, asked, r, rn, &mut status, &mut start, &mut len) };
     (number, status, start, len)
 }
 

@@ -143,7 +143,10 @@ fn more(rng: &mut Rng, p: &Profile) -> Item {
 }
 
 fn any_bus(rng: &mut Rng) -> u32 {
-    rng.of(&[0, 0, 0, 0, 1, 1, 1, 1, 2, 9, 256, 257, 4_294_967_295]) as u32
+    if rng.percent(8) {
+        return rng.of(&[2, 9, 256, 257, 4_294_967_295]) as u32;
+    }
+    rng.below(2) as u32
 }
 
 /// A board call with a profile, a state, a flash or an output of its own.
@@ -283,10 +286,10 @@ fn any_encode(rng: &mut Rng) -> Encode {
     let length = rng.of(&[0, 1, 26, 27, 28, 29, 122, 124, 250, 251, 252, 253, 300]) as usize;
     Encode {
         bus: any_bus(rng),
-        m: rng.of(&[31, 32, 32, 33, 128, 255, 256, 256, 256, 257, 65_568]) as u32,
-        code: rng.of(&[0, 1, 3, 6, 6, 6, 7, 8, 8, 8, 12, 2, 10, 15, 255, 256, 260, 262, 65_536]) as u32,
-        to: rng.of(&[8, 8, 9, 100, 127, 128, 255, 256, 264, 0, 4_294_967_295]) as u32,
-        a: rng.of(&[0, 1, 127, 128, 255, 256, 65_535, 65_535, 65_536, 4_294_967_295]) as u32,
+        m: rng.of(&[31, 32, 32, 33, 128, 128, 255, 256, 256, 256, 257, 65_568]) as u32,
+        code: if rng.percent(6) { rng.of(&[260, 262]) as u32 } else { any_code(rng) },
+        to: rng.of(&[8, 8, 8, 9, 9, 100, 100, 127, 128, 255, 256, 264, 0, 4_294_967_295]) as u32,
+        a: rng.of(&[0, 1, 1, 127, 127, 128, 255, 256, 65_535, 65_535, 65_536, 4_294_967_295]) as u32,
         b: rng.of(&[0, 1, 27, 28, 29, 30, 251, 252, 253, 254, 255, 256, 4_294_967_295]) as u32,
         data: rng.bytes(length),
     }
@@ -298,7 +301,8 @@ fn exact_encode(rng: &mut Rng) -> Item {
     let m = 32 + rng.below(225) as u32;
     let code = rng.of(&[0, 1, 3, 4, 5, 6, 6, 6, 7, 8, 9, 12]) as u32;
     let most = most_data(BUSES[bus as usize], m) as u64;
-    let length = rng.of(&[0, 1, most, rng_up_to(rng.number(), most)]);
+    let some = rng.below(most + 1);
+    let length = rng.of(&[0, 1, most, some]);
     let args = match code {
         1 => 2,
         6 => 2 + length,
@@ -316,10 +320,6 @@ fn exact_encode(rng: &mut Rng) -> Item {
         data: rng.bytes(length as usize),
     };
     Item::AsideEncode(encode, (whole - rng.below(2)) as usize)
-}
-
-fn rng_up_to(number: u64, most: u64) -> u64 {
-    number % (most + 1)
 }
 
 fn any_reply(rng: &mut Rng, bus: Bus, address: u8) -> Vec<u8> {
@@ -350,11 +350,19 @@ fn any_decode(rng: &mut Rng) -> Item {
     let bytes = any_reply(rng, BUSES[(bus % 2) as usize], from);
     Item::AsideDecode(Decode {
         bus,
-        code: rng.of(&[0, 1, 3, 4, 5, 6, 7, 8, 8, 8, 9, 12, 2, 13, 15, 256, 264, 4_294_967_295]) as u32,
+        code: any_code(rng),
         address: u32::from(from) + rng.of(&[0, 0, 0, 0, 1, 256, 65_536]) as u32,
         asked: rng.of(&[0, 1, 27, 28, 100, 253, 255, 256, 4_294_967_295]) as u32,
         reply: bytes,
     })
+}
+
+/// Mostly served.
+fn any_code(rng: &mut Rng) -> u32 {
+    if rng.percent(8) {
+        return rng.of(&[2, 10, 13, 15, 255, 256, 264, 65_536, 4_294_967_295]) as u32;
+    }
+    rng.of(&[0, 1, 3, 4, 5, 6, 7, 8, 8, 8, 9, 12]) as u32
 }
 
 fn two_reads(rng: &mut Rng) -> Item {
@@ -367,7 +375,7 @@ fn two_reads(rng: &mut Rng) -> Item {
     if rng.percent(20) {
         damage_one(rng, &mut second);
     }
-    let code = rng.of(&[0, 3, 7, 8, 8, 9, 12, 4, 13, 256]) as u32;
-    let asked = rng.of(&[0, 1, 27, 100, 253, 255, 4_294_967_295]) as u32;
+    let code = any_code(rng);
+    let asked = rng.of(&[0, 1, 5, 27, 100, 253, 255, 4_294_967_295]) as u32;
     Item::TwoReads { code, asked, first, second }
 }
