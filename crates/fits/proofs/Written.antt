@@ -1,5 +1,5 @@
--- The writes of an upload: each is accepted, since it begins at zero or where the one before ended, and its bytes join those before (`takenAll-stands`).
--- So all bytes accepted so far stand, and the board is ready for the next. Assumes nothing.
+-- The writes of an upload: each is accepted, since it begins at zero or where the one before ended, and its bytes join those before (`takenAll-append`).
+-- So the board stands as if all bytes so far had come in one write, and is ready for the next. Assumes nothing.
 use mathlib.Core.Path.{_≡_, refl, sym, ap, _∙_}
 use mathlib.Core.Bool.{true, _||_}
 use mathlib.Core.List.{List, [], _∷_, _++_, append-assoc, append-nil}
@@ -12,16 +12,15 @@ use lib.Seq.{length-take-le}
 use borrow.Author.Tests.{eq-eqb, ne-eqb, le-leb}
 use Rattle.rules.specs.declared.requests.Request.the-variants.{Write}
 use Rattle.rules.specs.Profile.{Profile}
-use Rattle.rules.specs.State.{State, Upload}
-use Rattle.rules.specs.Bytes.{overlay}
+use Rattle.rules.specs.State.{State}
 use Rattle.rules.specs.Commit.{Progress, takenAll}
 use Rattle.rules.specs.Frames.{twoBytes, numberAt}
 use Rattle.rules.specs.Commands.{Says, withUpload, begun, written, performed, ok}
-use Rattle.rules.proofs.UploadLaws.{by-test, takenAll-kept}
-use Rattle.rules.proofs.StateLaws.{ProfileFacts, UploadFacts, refusal-sound}
-use Rattle.rules.proofs.ImageLaws.{Stands, begins-stands, begins-formed, lent, takenAll-stands}
-use Rattle.fits.specs.Sending.{Sending}
-use Rattle.fits.specs.Talk.{Line, Board, Ready, sending, after, talk, left, EachOk}
+use Rattle.rules.proofs.CommitLaws.{takenAll-append}
+use Rattle.rules.proofs.UploadLaws.{by-test, next-takenAll}
+use Rattle.rules.proofs.StateLaws.{ProfileFacts, refusal-sound}
+use Rattle.rules.proofs.ImageLaws.{begins}
+use Rattle.fits.specs.Talk.{Line, Board, Ready, Message, sending, after, talk, left, EachOk}
 use Rattle.fits.specs.UploadSeen.{total, EachMost, dataMost, writes}
 use Rattle.fits.proofs.Exchange.{Exchanged, exchange}
 use Rattle.fits.proofs.Encodes.{write-made}
@@ -30,14 +29,23 @@ use Rattle.fits.proofs.Encodes.{write-made}
 abbrev pub resumed : ℕ → Board → Progress
 resumed at b = record { upload = begun at (b .state .upload); flash = b .flash }
 
--- the board is ready, and the bytes so far stand over the flash d; before the first byte the upload may be any
+-- the board is ready, and the upload has taken the bytes so far from the flash d on; before the first byte the board's upload may be any
 pub record Going (l : Line) (d front : List ℕ) (b : Board) : Type 0 where
   pub ready : Ready l b
-  pub stands : Stands (l .profile) d front (resumed (length front) b)
-  pub formed : UploadFacts (l .profile .page) (l .profile .size) (begun (length front) (b .state .upload))
+  pub resumes : resumed (length front) b ≡ takenAll (l .profile) (begins d) front
 
 pub going-begins : (l : Line) (b : Board) → Ready l b → Going l (b .flash) [] b
-going-begins l b ready = record { ready = ready; stands = begins-stands (l .profile) (b .flash); formed = begins-formed (l .profile) }
+unfolding takenAll
+going-begins l b ready = record { ready = ready; resumes = refl }
+
+-- an upload from zero goes on with itself
+begun-takenAll : (p : Profile) (d image : List ℕ)
+    → _≡_ {A = Progress}
+    (record { upload = begun (length image) (takenAll p (begins d) image .upload); flash = takenAll p (begins d) image .flash })
+    (takenAll p (begins d) image)
+unfolding takenAll
+begun-takenAll p d [] = refl
+begun-takenAll p d (y ∷ ys) = rw (ne-eqb (length (y ∷ ys)) 0 (λ e. omega arith))
 
 -- a write at a place where the upload stands
 written-accepted : (p : Profile) (s : State) (at : ℕ) (bytes d : List ℕ) → begun at (s .upload) .next ≡ at → at + length bytes ≤ p .size
@@ -54,30 +62,12 @@ written-accepted p s at bytes d next fits =
     by-test (eqb at 0) (λ e. rw e) (λ e. let same = rw e at next in rw (e, eq-eqb at (s .upload .next) (sym same))) in
     rw (place, follows, le-leb (at + length bytes) (p .size) fits)
 
--- what stands is what a write at its end goes on with
-
-none-in-front : (xs ys : List ℕ) → [] ≡ xs ++ ys → xs ≡ []
-none-in-front [] ys e = refl
-none-in-front (x ∷ xs) ys e = cc
-
-begun-stands : (p : Profile) (d image : List ℕ) (g : Progress) → Stands p d image g
-    → Stands p d image (record { upload = begun (length image) (g .upload); flash = g .flash })
-begun-stands p d [] g stands = record {
-  done = [];
-  parts = refl;
-  next-is = refl;
-  flash-is = stands .flash-is ∙ ap (overlay d (p .offset)) (none-in-front (stands .done) (g .upload .waiting) (stands .parts));
-}
-begun-stands p d (y ∷ ys) g stands = rw (ne-eqb (length (y ∷ ys)) 0 (λ e. omega arith)) stands
-
-begun-formed : (p : Profile) (n : ℕ) (u : Upload) → UploadFacts (p .page) (p .size) u → UploadFacts (p .page) (p .size) (begun n u)
-begun-formed p n u formed = by-test (eqb n 0) (λ e. rw e (begins-formed p)) (λ e. rw e formed)
-
-module _ (l : Line) (d : List ℕ) (room : l .profile .offset + l .profile .size ≤ length d) where
+module _ (l : Line) (d : List ℕ) where
+  -- one of them
   module _ (front : List ℕ) (b : Board) (going : Going l d front b) (bytes : List ℕ)
       (most : length bytes ≤ dataMost (l .profile .bus) (l .profile .longest)) (fits : length front + length bytes ≤ l .profile .size) where
-    abbrev x : Sending
-    x = sending l b (record { request = Write (length front); bytes = bytes })
+    abbrev write : Message
+    write = record { request = Write (length front); bytes = bytes }
 
     abbrev g : Progress
     g = takenAll (l .profile) (resumed (length front) b) bytes
@@ -85,21 +75,22 @@ module _ (l : Line) (d : List ℕ) (room : l .profile .offset + l .profile .size
     facts : ProfileFacts (l .profile)
     facts = refusal-sound (l .profile) (b .state) (length (b .flash)) (l .buffer) (going .ready .none-refused) .profile
 
-    write-exchanged : Exchanged l x (g .upload) (g .flash) []
-    write-exchanged =
-        exchange l b (going .ready) (record { request = Write (length front); bytes = bytes }) (twoBytes (length front) ++ bytes) [] (g .upload) (g .flash)
-        (write-made l b (going .ready) (length front) (omega (arith, facts .size-most)) bytes most) refl (λ e. absurd (omega arith))
-        (written-accepted (l .profile) (b .state) (length front) bytes (b .flash) (going .stands .next-is) fits)
+    next-is : begun (length front) (b .state .upload) .next ≡ length front
+    next-is = ap (λ (q : Progress). q .upload .next) (going .resumes) ∙ next-takenAll (l .profile) (begins d) front ∙ omega arith
 
-    write-going : Going l d (front ++ bytes) (after x)
+    write-exchanged : Exchanged l (sending l b write) (g .upload) (g .flash) []
+    write-exchanged =
+        exchange l b (going .ready) write (twoBytes (length front) ++ bytes) [] (g .upload) (g .flash)
+        (write-made l b (going .ready) (length front) (omega (arith, facts .size-most)) bytes most) refl (λ e. absurd (omega arith))
+        (written-accepted (l .profile) (b .state) (length front) bytes (b .flash) next-is fits)
+
+    write-going : Going l d (front ++ bytes) (after (sending l b write))
     write-going =
-        let kept = takenAll-kept (l .profile) facts (resumed (length front) b) bytes
-        (lent (l .profile) d front (resumed (length front) b) (going .stands) facts room (going .formed)) (going .formed) (omega (arith, going .stands .next-is)) in
-        let all = takenAll-stands (l .profile) facts d room front (resumed (length front) b) bytes (going .stands) (going .formed) (omega (arith, going .stands .next-is)) in
+        let all : g ≡ takenAll (l .profile) (begins d) (front ++ bytes) =
+        ap (λ (q : Progress). takenAll (l .profile) q bytes) (going .resumes) ∙ sym (takenAll-append (l .profile) (begins d) front bytes) in
         record {
           ready = write-exchanged .ready;
-          stands = rw (write-exchanged .upload-is, write-exchanged .flash-is) (begun-stands (l .profile) d (front ++ bytes) g all);
-          formed = rw (write-exchanged .upload-is) (begun-formed (l .profile) (length (front ++ bytes)) (g .upload) (kept .formed));
+          resumes = rw (write-exchanged .upload-is, write-exchanged .flash-is, all) (begun-takenAll (l .profile) d (front ++ bytes));
         }
 
   -- all of them

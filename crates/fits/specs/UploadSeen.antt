@@ -67,7 +67,8 @@ pub record Seen (l : Line) (b : Board) (image plan : List ℕ) : Type 0 where
       (parts : List ℕ) → Plan (resultsMost (l .profile .bus) (l .profile .longest)) (length image) parts
       → EachOk (talk l (uploaded l b image plan) (reads 0 parts)) × (joined (talk l (uploaded l b image plan) (reads 0 parts)) ≡ image)
 
--- an image of 1 to S bytes, written from zero in frames of any allowed lengths and finalized, is answered OK all along and stands in flash
+-- an image of 1 to S bytes, written from zero in frames of any allowed lengths and finalized, is answered OK all along, stands in flash with every
+-- other byte as before, and reads back as its own bytes
 abbrev pub UploadSeen : Type 0
 UploadSeen =
     (l : Line) (b : Board) (image plan : List ℕ) → Ready l b → 1 ≤ length image → length image ≤ l .profile .size

@@ -4,7 +4,7 @@ use mathlib.Core.Path.{_≡_, refl, sym, ap, _∙_}
 use mathlib.Core.List.{List, [], _∷_, _++_, append-assoc, append-nil}
 use Prim.Native.Nat.{ℕ, _+_, _-_, _%_, _<_, _≤_}
 use native.Mathlib.Omega.{arith}
-use native.Mathlib.Nat.{div-add-mod', mod-lt, zero-mod}
+use native.Mathlib.Nat.{div-add-mod', zero-mod}
 use lib.Dec.{eqb}
 use lib.ListN.{length, take, drop, getD, length-append, length-take, length-drop, List·getD-append}
 use lib.Seq.{take-at, drop-at, length-take-le, take-append-le, drop-append-le, drop-append-add, getD-append-add, getD-take, getD-drop}
@@ -15,8 +15,8 @@ use Rattle.rules.specs.State.{Upload, freshUpload}
 use Rattle.rules.specs.Commit.{Progress, pageStart, taken, takenAll, finalized}
 use Rattle.rules.proofs.BytesLaws.{length-overlay, overlay-none, overlay-overlay}
 use Rattle.rules.proofs.CommitLaws.{placed, committed-overlay}
-use Rattle.rules.proofs.StateLaws.{ProfileFacts, UploadFacts}
-use Rattle.rules.proofs.UploadLaws.{by-test, sub-mod, suc-mod-inner, more, length-more, more-fitting, waiting-committed, next-committed, next-taken, takenAll-kept}
+use Rattle.rules.proofs.StateLaws.{length-zero, ProfileFacts, UploadFacts}
+use Rattle.rules.proofs.UploadLaws.{by-test, suc-mod-inner, more, length-more, more-fitting, waiting-committed, next-committed, next-taken, formed-fitting, takenAll-kept}
 
 -- an upload of which the image's bytes are accepted so far, over the flash d that it began with: the first of them are done, the others wait
 pub record Stands (p : Profile) (d image : List ℕ) (g : Progress) : Type 0 where
@@ -24,10 +24,6 @@ pub record Stands (p : Profile) (d image : List ℕ) (g : Progress) : Type 0 whe
   pub parts : image ≡ done ++ g .upload .waiting
   pub next-is : g .upload .next ≡ length image
   pub flash-is : g .flash ≡ overlay d (p .offset) done
-
-length-zero : (l : List ℕ) → length l ≡ 0 → l ≡ []
-length-zero [] e = refl
-length-zero (x ∷ xs) e = absurd (omega arith)
 
 -- an upload begins
 abbrev pub begins : List ℕ → Progress
@@ -79,23 +75,9 @@ module _ (p : Profile) (d image : List ℕ) (g : Progress) (stands : Stands p d 
     unfolding finalized
     finalized-stands =
         let u : Upload = g .upload in
-        let pos : 0 < p .page = omega (arith, facts .page-is) in
-        let place = sub-mod (p .page) (u .next) (length (u .waiting)) pos (formed .waiting-most) in
         by-test (eqb (length (g .upload .waiting)) 0)
         (λ e. rw e (stands .flash-is ∙ ap (overlay d (p .offset)) (nothing-waits (eqb-true _ _ e))))
-        (λ e.
-        rw (
-          e,
-          committed-overlay p g
-              (record {
-                page-pos = pos;
-                sized = facts .size-paged;
-                room = lent;
-                next-le = formed .next-most;
-                held-le = omega (arith, done-length);
-                in-page = omega (arith, place, mod-lt (u .next) pos, formed .waiting-most);
-              }),
-        )
+        (λ e. rw (e, committed-overlay p g (formed-fitting p facts g lent formed))
         (laid-on u (u .waiting) (omega (arith, done-length)) (omega (arith, done-length, formed .next-most)) ∙ ap (overlay d (p .offset)) (sym (stands .parts))))
       where
         nothing-waits : length (g .upload .waiting) ≡ 0 → stands .done ≡ image
@@ -171,6 +153,13 @@ module _ (d : List ℕ) (at : ℕ) (bytes : List ℕ) (fits : at + length bytes 
       ap (λ (m : ℕ). drop (m + k) (take at d ++ (bytes ++ behind))) (sym front) ∙ drop-append-add (take at d) (bytes ++ behind) k in
       rw (append-assoc (take at d) bytes behind, moved, drop-append-le k bytes behind (omega arith))
       (take-append-le n (drop k bytes) behind (simp length-drop (omega arith)))
+
+  -- what is behind them
+  pub drop-overlay : drop (at + length bytes) (overlay d at bytes) ≡ drop (at + length bytes) d
+  unfolding overlay
+  drop-overlay =
+      let front : length (take at d ++ bytes) ≡ at + length bytes = simp (length-append, length-take) (omega arith) in
+      drop-at (take at d ++ bytes) (drop (at + length bytes) d) (at + length bytes) front
 
   -- a byte before them, and one behind
   pub getD-overlay-before : (i : ℕ) → i < at → getD (overlay d at bytes) i 0 ≡ getD d i 0

@@ -10,3 +10,4 @@ pub mod VerdictLaws
 pub mod FrameLaws
 pub mod ArgumentLaws
 pub mod ImageLaws
+pub mod CountLaws

@@ -126,7 +126,7 @@ unfolding uploadFormed
 facts-uploadFormed page S u f = rw (le-leb _ _ (f .next-most), le-leb _ _ (f .waiting-most), le-leb _ _ (f .count-most))
 
 -- a list of no elements
-length-zero : (l : List ℕ) → length l ≡ 0 → l ≡ []
+pub length-zero : (l : List ℕ) → length l ≡ 0 → l ≡ []
 length-zero [] e = refl
 length-zero (x ∷ xs) e = absurd (omega arith)
 

@@ -139,24 +139,26 @@ module _ (p : Profile) (facts : ProfileFacts p) where
       takenAll-kept (taken p g b) bs (omega (arith, one .flash-length)) (one .formed) (omega (arith, next-taken p g b)) in
       record { formed = all .formed; flash-length = all .flash-length ∙ one .flash-length }
 
-  pub finalized-kept : (g : Progress) → p .offset + p .size ≤ length (g .flash) → UploadFacts (p .page) (p .size) (g .upload)
-      → Kept p (g .flash) (finalized p g)
-  unfolding finalized
-  finalized-kept g room formed =
+  -- the waiting bytes of a well-formed upload lie within one page
+  pub formed-fitting : (g : Progress) → p .offset + p .size ≤ length (g .flash) → UploadFacts (p .page) (p .size) (g .upload) → Fitting p g
+  formed-fitting g room formed =
       let u : Upload = g .upload in
       let pos : 0 < p .page = omega (arith, facts .page-is) in
       let place = sub-mod (p .page) (u .next) (length (u .waiting)) pos (formed .waiting-most) in
-      by-test (eqb (length (g .upload .waiting)) 0) (λ e. rw e (record { formed = formed; flash-length = refl }))
-      (λ e.
-      let some : length (u .waiting) ≡ 0 → ⊥ = eqb-false _ _ e in
-      rw e
-      (committed-kept p g
-      (record {
+      record {
         page-pos = pos;
         sized = facts .size-paged;
         room = room;
         next-le = formed .next-most;
         held-le = omega (arith, formed .waiting-most, mod-le (u .next) (p .page));
         in-page = omega (arith, place, mod-lt (u .next) pos, formed .waiting-most);
-      })
-      (omega arith) (formed .count-most)))
+      }
+
+  pub finalized-kept : (g : Progress) → p .offset + p .size ≤ length (g .flash) → UploadFacts (p .page) (p .size) (g .upload)
+      → Kept p (g .flash) (finalized p g)
+  unfolding finalized
+  finalized-kept g room formed =
+      by-test (eqb (length (g .upload .waiting)) 0) (λ e. rw e (record { formed = formed; flash-length = refl }))
+      (λ e.
+      let some : length (g .upload .waiting) ≡ 0 → ⊥ = eqb-false _ _ e in
+      rw e (committed-kept p g (formed-fitting g room formed) (omega arith) (formed .count-most)))

@@ -1,0 +1,4 @@
+-- Laws of the layouts, for this crate and those above it.
+pub mod Laws
+pub mod ProfileLaws
+pub mod StateLaws
