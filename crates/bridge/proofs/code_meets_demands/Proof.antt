@@ -1,0 +1,10 @@
+-- `bridge::code_meets_demands` meets its contract: by `Meets`. Assumes nothing.
+use Rattle.bridge.proofs.Meets.{code-meets-demands}
+use Rattle.bridge.proofs.code_meets_demands.Statement.{statement}
+use Rattle.bridge.proofs.code_meets_demands.Tie as tie
+
+returns : tie.Need-returns
+returns c = code-meets-demands
+
+pub code-meets-demands-spec : {M : Type 1} → statement M
+code-meets-demands-spec = tie.close (tie.spec returns)
