@@ -149,7 +149,8 @@ said-bytes b bytes long =
     let front : List ℕ = kindByte (stateSaid b .address) ∷ ownByte (stateSaid b .address) ∷ runningByte (stateSaid b .running) ∷ 0 ∷ [] in
     let waiting : List ℕ = part b 20 page in
     let reply : List ℕ = part b 84 largestFrame in
-    ap (λ (l : List ℕ). l ++ fourBytes (fourAt b 8) ++ fourBytes (fourAt b 12) ++ fourBytes (fourAt b 16) ++ waiting ++ reply) (part-four front b 4 0 bytes (omega arith))
+    ap (λ (l : List ℕ). l ++ fourBytes (fourAt b 8) ++ fourBytes (fourAt b 12) ++ fourBytes (fourAt b 16) ++ waiting ++ reply)
+    (part-four front b 4 0 bytes (omega arith))
     ∙ ap (λ (l : List ℕ). l ++ fourBytes (fourAt b 12) ++ fourBytes (fourAt b 16) ++ waiting ++ reply) (part-four front b 4 4 bytes (omega arith))
     ∙ ap (λ (l : List ℕ). l ++ fourBytes (fourAt b 16) ++ waiting ++ reply) (part-four front b 4 8 bytes (omega arith))
     ∙ ap (λ (l : List ℕ). l ++ waiting ++ reply) (part-four front b 4 12 bytes (omega arith))

@@ -1,0 +1,6 @@
+-- Laws of the C boundary.
+pub mod SettleLaws
+pub mod FarLaws
+pub mod BoardLaws
+pub mod KeptLaws
+pub mod MasterLaws

@@ -1,0 +1,55 @@
+-- `childbus_read` meets its contract, by what `board::read` promises. Assumes nothing.
+use borrow.Author.Needs.{needs}
+use Rattle.childbus.proofs.BoardLaws.{read-left}
+use Rattle.childbus.proofs.board_calls.childbus_read.Statement.{statement}
+use Rattle.childbus.proofs.board_calls.childbus_read.Tie as tie
+
+profile-from-requires : tie.Need-profile-from-requires
+profile-from-requires c κs = search needs
+
+state-from-requires : tie.Need-state-from-requires
+state-from-requires c κs = search needs
+
+clip-requires : tie.Need-clip-requires
+clip-requires c κs = search needs
+
+read-requires : tie.Need-read-requires
+read-requires c κs = search needs
+
+made-by-requires : tie.Need-made-by-requires
+made-by-requires c κs = search needs
+
+number-of-requires : tie.Need-number-of-requires
+number-of-requires c κs = search needs
+
+same-length : tie.Need-same-length
+same-length c = search needs
+
+returns : tie.Need-returns
+returns c =
+    let made = c .before in
+    let read = made .before .before .before in
+    let address = read .before .before in
+    let state = address .before in
+    let profile = state .before in
+    let args = profile .before .before .before .before .before .args in
+    read-left (args .profile .now) (args .state .now) (args .address) (args .flash .now) (args .out .now)
+    (profile .profile-from .ensures)
+    (state .state-from .ensures)
+    (address .clip .ensures)
+    (c .number-of .ensures)
+    (made .made-by .ensures)
+    (read .read .ensures)
+
+pub childbus-read-spec : {M : Type 1} → statement M
+childbus-read-spec =
+    tie.close
+    (tie.spec
+    profile-from-requires
+    state-from-requires
+    clip-requires
+    read-requires
+    made-by-requires
+    number-of-requires
+    same-length
+    returns)

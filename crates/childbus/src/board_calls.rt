@@ -1,0 +1,78 @@
+// The board's calls: the fresh state, a received frame, an I²C read.
+use crate::answers::clip;
+use crate::answers::made_by;
+use crate::answers::number_of;
+use crate::settle::settle;
+use state::State;
+ghost use mathlib.Core.Path.{_≡_};
+ghost use Rattle.childbus.specs.BoardBytes.{freshLeft, FreshLeft, receivedLeft, ReceivedLeft, readLeft, ReadLeft};
+ghost use Rattle.childbus.specs.Kept.{Kept};
+
+// The fresh board.
+#[no_mangle]
+pub extern "C" fn childbus_fresh(state: &mut [u8]) -> u32
+    ensures { λ r. ⌜ _≡_ {A = FreshLeft} (record { number = r; state = now (state .exit) }) (freshLeft (now (state .entry))) ⌝ }
+{
+    if state.len() < layout::states::STATE_BYTES {
+        return 4;
+    }
+    layout::states::state_to(State::fresh(), state);
+    0
+}
+
+// A received frame.
+#[no_mangle]
+pub extern "C" fn childbus_receive(
+    profile: &[u8],
+    state: &mut [u8],
+    address: u32,
+    frame: &[u8],
+    flash: &mut [u8],
+    out: &mut [u8],
+    made: &mut usize,
+) -> u32
+    ensures { λ r.
+        ⌜ _≡_ {A = ReceivedLeft}
+        (record { number = r; made = now (made .exit); state = now (state .exit); flash = now (flash .exit); out = now (out .exit) })
+        (receivedLeft (now (profile .entry)) (now (state .entry)) address (now (frame .entry)) (now (flash .entry)) (now (out .entry))) ⌝ }
+{
+    let p = layout::profiles::profile_from(profile);
+    let s = layout::states::state_from(state);
+    let answer = board::receive(p, s, clip(address), frame, flash, out);
+    let outcome = answer.outcome;
+    let left = answer.state;
+    *made = made_by(outcome);
+    let number = number_of(outcome);
+    if 2 <= number {
+        return number;
+    }
+    layout::states::state_to(settle(left), state);
+    number
+}
+
+// An I²C read.
+#[no_mangle]
+pub extern "C" fn childbus_read(
+    profile: &[u8],
+    state: &[u8],
+    address: u32,
+    flash: &[u8],
+    out: &mut [u8],
+    made: &mut usize,
+) -> u32
+    ensures { λ r.
+        ⌜ _≡_ {A = ReadLeft} (record { number = r; made = now (made .exit); out = now (out .exit) })
+        (readLeft (now (profile .entry)) (now (state .entry)) address (now (flash .entry)) (now (out .entry))) ⌝ }
+{
+    let built = layout::profiles::profile_from(profile);
+    let held = layout::states::state_from(state);
+    let answer = board::read(built, held, clip(address), flash, out);
+    let told = answer.outcome;
+    *made = made_by(told);
+    number_of(told)
+}
+
+// What a call leaves in the state buffer says the state that the rules give.
+pub fn state_kept()
+    ensures { λ _. ⌜ Kept ⌝ }
+{}
