@@ -1,0 +1,136 @@
+// The fields of an answer: numbers, byte strings, the state, and whether an output is untouched.
+use board::Answer;
+use rules::kinds::Address;
+use rules::kinds::Outcome;
+use state::Last;
+use state::State;
+use state::Upload;
+use text::hash::fnv1a;
+use text::part::first;
+use text::write::write_byte;
+use text::write::write_hex;
+use text::write::write_number;
+use text::write::write_word;
+
+// What the lent output holds before a call.
+pub const UNTOUCHED: u8 = 0xA5;
+
+// A space and a number.
+pub fn put_number(out: &mut [u8], at: usize, n: usize) -> usize {
+    let to = write_byte(out, at, b' ');
+    write_number(out, to, n as u64)
+}
+
+// A space and a byte string.
+pub fn put_hex(out: &mut [u8], at: usize, s: &[u8]) -> usize {
+    let to = write_byte(out, at, b' ');
+    write_hex(out, to, s)
+}
+
+// Whether the output from a place on is as it was before the call.
+fn is_untouched(out: &[u8], at: usize) -> bool {
+    if out.len() < at {
+        return false;
+    }
+    let mut i = at;
+    while i < out.len() {
+        if out[i] != UNTOUCHED {
+            return false;
+        }
+        i += 1;
+    }
+    true
+}
+
+fn one_if(t: bool) -> usize {
+    if t { 1 } else { 0 }
+}
+
+// bufferok
+pub fn put_untouched(out: &mut [u8], at: usize, lent: &[u8], made: usize) -> usize {
+    put_number(out, at, one_if(is_untouched(lent, made)))
+}
+
+// The number of an answer.
+fn number(outcome: Outcome) -> usize {
+    match outcome {
+        Outcome::Reply(_) => 0,
+        Outcome::Nothing => 1,
+        Outcome::ProfileOutOfRange => 2,
+        Outcome::FlashTooShort => 3,
+        Outcome::StateMalformed => 4,
+        Outcome::BufferTooShort => 5,
+    }
+}
+
+// How many bytes of reply it has.
+fn made(outcome: Outcome) -> usize {
+    match outcome {
+        Outcome::Reply(n) => n,
+        _ => 0,
+    }
+}
+
+// 256 is the default range.
+fn own(address: Address) -> usize {
+    match address {
+        Address::DefaultRange => 256,
+        Address::Own(a) => a as usize,
+    }
+}
+
+// The waiting bytes, as far as the buffer holds so many.
+fn put_waiting(out: &mut [u8], at: usize, upload: Upload) -> usize {
+    let waiting = upload.waiting;
+    put_hex(out, at, first(&waiting, upload.held))
+}
+
+// The last reply, as far as the buffer holds so many bytes.
+fn put_last(out: &mut [u8], at: usize, last: Last) -> usize {
+    let bytes = last.bytes;
+    put_hex(out, at, first(&bytes, last.len))
+}
+
+// own running next w count waiting lastreply
+fn put_state(out: &mut [u8], at: usize, s: State) -> usize {
+    let address = s.address;
+    let upload = s.upload;
+    let last = s.last;
+    let mut to = put_number(out, at, own(address));
+    to = put_number(out, to, one_if(s.running));
+    to = put_number(out, to, upload.next);
+    to = put_number(out, to, upload.held);
+    to = put_number(out, to, upload.count);
+    to = put_waiting(out, to, upload);
+    put_last(out, to, last)
+}
+
+// letter number reply
+fn put_outcome(out: &mut [u8], at: usize, letter: u8, outcome: Outcome, reply: &[u8]) -> usize {
+    let mut to = write_byte(out, at, letter);
+    to = put_number(out, to, number(outcome));
+    put_hex(out, to, first(reply, made(outcome)))
+}
+
+// flashhash
+fn put_hash(out: &mut [u8], at: usize, flash: &[u8]) -> usize {
+    let to = write_byte(out, at, b' ');
+    write_word(out, to, fnv1a(flash))
+}
+
+// The line of a board call: letter number reply state flashhash bufferok
+pub fn put_answer(
+    out: &mut [u8],
+    at: usize,
+    letter: u8,
+    answer: Answer,
+    reply: &[u8],
+    flash: &[u8],
+) -> usize {
+    let outcome = answer.outcome;
+    let mut to = put_outcome(out, at, letter, outcome, reply);
+    to = put_state(out, to, answer.state);
+    to = put_hash(out, to, flash);
+    to = put_untouched(out, to, reply, made(outcome));
+    write_byte(out, to, b'\n')
+}
