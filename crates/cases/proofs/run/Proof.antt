@@ -8,7 +8,7 @@ use Rattle.cases.proofs.run.Statement.{statement}
 use Rattle.cases.proofs.run.Tie as tie
 
 abbrev Inv-loop : tie.InvT-loop
-Inv-loop input₀ flash₀ out₀ now₀ turns₀ input flash out now turns = 
+Inv-loop input₀ flash₀ out₀ now₀ turns₀ input flash out now turns =
     (now .kept ≤ length input) × (length input ≡ length input₀) × (length flash ≡ length flash₀) × (length out ≡ length out₀)
 
 abbrev μ-loop : tie.MeasureT-loop

@@ -1,0 +1,56 @@
+// The bench: plays a board, and the master beside it, from a script of plain lines, and says in words what happened.
+// The script is the file that the first argument names, or standard input. The lines are listed by `help` and in docs/BENCH.md.
+use crate::turns::turn;
+use desk::table::Desk;
+use script::words::say;
+use settings::shown::farewell;
+
+mod turns;
+
+// The whole script.
+fn run(fd: i32, line: &mut [u8], image: &mut [u8], flash: &mut [u8], book: &mut [u8]) {
+    let mut d = Desk::new();
+    let mut turns = u64::MAX;
+    while 0 < turns && !d.over {
+        d = turn(d, fd, line, image, flash, book);
+        turns -= 1;
+    }
+    farewell(d);
+}
+
+// A new bench: erased flash, and nothing rewritten.
+fn start(fd: i32) {
+    let mut line = [0u8; 2048];
+    let mut image = [0u8; 131072];
+    let mut flash = [0xffu8; 131072];
+    let mut book = [0u8; 132096];
+    desk::pages::begin(&flash, &mut book);
+    run(fd, &mut line, &mut image, &mut flash, &mut book);
+}
+
+// The script in a file.
+fn start_file(path: &[u8]) {
+    let fd = os::open_read(path);
+    if fd < 0 {
+        say(b"the script ");
+        say(path);
+        say(b" cannot be opened\n");
+        return;
+    }
+    start(fd);
+    libc::close(fd);
+}
+
+fn main() {
+    if os::arg_count() < 2 {
+        start(libc::STDIN_FILENO);
+        return;
+    }
+    let mut path = io::buffer();
+    let n = os::arg(1, &mut path);
+    if os::errno() != 0 {
+        say(b"the script's name is too long\n");
+        return;
+    }
+    start_file(&path[0..n]);
+}

@@ -1,0 +1,103 @@
+// Which pages the board rewrote. The book is a copy of the flash, and behind it a count for each page of the working flash; after each call
+// flash and copy are compared where the upload stands.
+use flash::matches;
+use script::image::copy;
+use script::words::more;
+use script::words::told;
+
+const PAGE: usize = 64;
+// The length of the lent flash, and of its copy.
+pub const FLASH: usize = 131072;
+
+// Where a page of the working flash begins in the lent flash; past every flash if that is far away.
+fn page_start(offset: usize, page: usize) -> usize {
+    if 1000000 < offset {
+        return 1000000;
+    }
+    if 1024 < page {
+        return 1000000;
+    }
+    offset + page * PAGE
+}
+
+// Whether the page that begins at a place differs from its copy, which then follows it.
+fn page_changed(at: usize, flash: &[u8], book: &mut [u8]) -> bool {
+    if FLASH - PAGE < at {
+        return false;
+    }
+    let end = at + PAGE;
+    if flash.len() < end {
+        return false;
+    }
+    if book.len() < end {
+        return false;
+    }
+    if matches(&flash[at..end], &book[at..end]) {
+        return false;
+    }
+    copy(&flash[at..end], &mut book[at..end]);
+    true
+}
+
+// How often a page was rewritten.
+pub fn times(page: usize, book: &[u8]) -> u8 {
+    if 1024 <= page {
+        return 0;
+    }
+    let at = FLASH + page;
+    if at < book.len() { book[at] } else { 0 }
+}
+
+// One more rewriting of a page.
+fn count_page(page: usize, book: &mut [u8]) {
+    if 1024 <= page {
+        return;
+    }
+    let at = FLASH + page;
+    if book.len() <= at {
+        return;
+    }
+    let n = book[at];
+    if n < 255 {
+        book[at] = n + 1;
+    }
+}
+
+// The counts begin anew, and the copy follows the flash.
+pub fn begin(flash: &[u8], book: &mut [u8]) {
+    let all = book.len();
+    script::image::fill(book, all, 0);
+    copy(flash, book);
+}
+
+// A page that may have been rewritten: 1 if it was, else 0.
+fn track_page(loud: bool, offset: usize, page: usize, flash: &[u8], book: &mut [u8]) -> usize {
+    if !page_changed(page_start(offset, page), flash, book) {
+        return 0;
+    }
+    count_page(page, book);
+    if loud {
+        told(b"  changed: page ", page, b" erased and rewritten\n");
+    }
+    1
+}
+
+// The first of the pages that a frame may have reached whose last byte is at `next`.
+fn first_page(next: usize) -> usize {
+    if next / PAGE < 5 { 0 } else { next / PAGE - 5 }
+}
+
+// Whether a page was rewritten, up to the page of `next`.
+pub fn track(loud: bool, offset: usize, next: usize, flash: &[u8], book: &mut [u8]) -> bool {
+    let mut page = first_page(next);
+    let mut n = 0;
+    let mut turns = 6usize;
+    while 0 < turns {
+        turns -= 1;
+        if track_page(loud, offset, page, flash, book) == 1 {
+            n = 1;
+        }
+        page = more(page);
+    }
+    n == 1
+}

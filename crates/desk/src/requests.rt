@@ -1,0 +1,74 @@
+// Requests that the master makes and sends.
+use crate::exchange::Turn;
+use crate::exchange::send;
+use crate::library::encode;
+use crate::table::Desk;
+use rules::requests::Encoded;
+use rules::requests::Request;
+use wording::meaning;
+use wording::reply::Asked;
+use wording::reply::unheard;
+
+fn unsent(d: Desk) -> Turn {
+    Turn {
+        desk: d,
+        heard: unheard(),
+    }
+}
+
+// The first n bytes of a frame.
+fn sent(
+    d: Desk,
+    asked: Asked,
+    frame: &mut [u8],
+    n: usize,
+    bytes: &[u8],
+    flash: &mut [u8],
+    book: &mut [u8],
+) -> Turn {
+    if frame.len() < n {
+        return unsent(d);
+    }
+    send(d, asked, &mut frame[0..n], bytes, flash, book)
+}
+
+// A request that the master makes and sends. The bytes are a write's data, or what a read should give.
+pub fn request(
+    d: Desk,
+    r: Request,
+    asked: Asked,
+    bytes: &[u8],
+    flash: &mut [u8],
+    book: &mut [u8],
+) -> Turn {
+    let bus = asked.bus;
+    let mut frame = [0u8; 512];
+    let e = encode(bus, d.profile.longest, r, d.to, bytes, &mut frame);
+    let Encoded::Made(n) = e else {
+        meaning::tell_unmade(e);
+        return unsent(d);
+    };
+    sent(d, asked, &mut frame, n, bytes, flash, book)
+}
+
+// A command to where the master sends.
+pub fn command(d: Desk, code: usize, length: usize, loud: bool) -> Asked {
+    Asked {
+        bus: d.bus(),
+        code,
+        length,
+        address: (d.to % 256) as u8,
+        loud,
+    }
+}
+
+// A general call.
+pub fn general(d: Desk) -> Asked {
+    Asked {
+        bus: d.bus(),
+        code: 0x46,
+        length: 0,
+        address: 0,
+        loud: true,
+    }
+}

@@ -1,0 +1,160 @@
+// What the bench remembers between lines: the board's profile and state, and the master's side.
+use profile::Profile;
+use rules::kinds::Address;
+use rules::kinds::Bus;
+use script::words::more;
+use script::words::say;
+use script::words::told;
+use state::State;
+
+pub struct Desk {
+    pub profile: Profile,
+    pub state: State,
+    // where the master sends to
+    pub to: usize,
+    // the command that the master sent last, and the length that it asked for
+    pub code: usize,
+    pub asked: usize,
+    // which byte of the next frame and of the next reply is to be damaged, from 1; 0 for none
+    pub damage: usize,
+    pub noise: usize,
+    // lines read, and those among them that were not understood
+    pub lines: usize,
+    pub wrong: usize,
+    // the script is at its end
+    pub over: bool,
+}
+
+// The board of a script that sets up none.
+pub fn usual(bus: Bus) -> Profile {
+    Profile {
+        bus,
+        longest: 64,
+        size: 1024,
+        offset: 0,
+        hardware: 7,
+        compatible: 1,
+        actual: 1,
+        version: 1,
+        serial: [0u8; 16],
+        seriallen: 0,
+    }
+}
+
+// The first address of the default range.
+pub const FIRST: usize = 8;
+
+impl Desk {
+    pub fn new() -> Self {
+        Desk {
+            profile: usual(Bus::I2c),
+            state: State::fresh(),
+            to: FIRST,
+            code: 0,
+            asked: 0,
+            damage: 0,
+            noise: 0,
+            lines: 0,
+            wrong: 0,
+            over: false,
+        }
+    }
+
+    pub fn bus(self) -> Bus {
+        let p = self.profile;
+        p.bus
+    }
+
+    // The board's next address, waiting bytes and erase count.
+    pub fn next(self) -> usize {
+        self.state.upload.next
+    }
+
+    pub fn held(self) -> usize {
+        self.state.upload.held
+    }
+
+    pub fn count(self) -> usize {
+        self.state.upload.count
+    }
+
+    // Where the board listens.
+    pub fn own(self) -> Address {
+        let s = self.state;
+        s.address
+    }
+
+    // Another board, fresh.
+    pub fn with_board(mut self, p: Profile) -> Self {
+        self.profile = p;
+        self.state = State::fresh();
+        self.to = FIRST;
+        self
+    }
+
+    pub fn with_state(mut self, s: State) -> Self {
+        self.state = s;
+        self
+    }
+
+    pub fn sending_to(mut self, to: usize) -> Self {
+        self.to = to;
+        self
+    }
+
+    // The master sent a command.
+    pub fn asking(mut self, code: usize, asked: usize) -> Self {
+        self.code = code;
+        self.asked = asked;
+        self.damage = 0;
+        self
+    }
+
+    pub fn damaging(mut self, damage: usize) -> Self {
+        self.damage = damage;
+        self
+    }
+
+    pub fn with_noise(mut self, noise: usize) -> Self {
+        self.noise = noise;
+        self
+    }
+
+    // The next reply is not damaged any more.
+    pub fn quiet(mut self) -> Self {
+        self.noise = 0;
+        self
+    }
+
+    pub fn ended(mut self) -> Self {
+        self.over = true;
+        self
+    }
+
+    // One more line.
+    pub fn counted(mut self) -> Self {
+        self.lines = more(self.lines);
+        self
+    }
+
+    // A line that was not understood: it says what was expected, and changes nothing else.
+    pub fn refused(mut self, expected: &[u8]) -> Self {
+        told(
+            b"  line ",
+            self.lines,
+            b" is not understood and changes nothing. Expected:\n    ",
+        );
+        say(expected);
+        say(b"\n");
+        self.wrong = more(self.wrong);
+        self
+    }
+}
+
+// Where the board listens, as far as a master that it has answered is concerned.
+pub fn heard_at(own: Address, sent: u8) -> u8 {
+    match own {
+        Address::DefaultRange => sent,
+        Address::Own(a) => a,
+    }
+}

@@ -1,0 +1,286 @@
+// `upload`: a whole image in frames, finalize, and read back.
+use desk::exchange::Turn;
+use desk::requests::command;
+use desk::requests::request;
+use desk::table::Desk;
+use rules::kinds::Bus;
+use rules::requests::Request;
+use script::fields::Parsed;
+use script::fields::first;
+use script::fields::number;
+use script::fields::rest;
+use script::fields::which;
+use script::image::after_data;
+use script::image::data;
+use script::words::least;
+use script::words::many;
+use script::words::say;
+use script::words::told;
+use wording::changes::warn_waiting;
+use wording::reply::tell_count;
+
+// An upload so far, and whether each step was OK.
+struct Sent {
+    desk: Desk,
+    fine: bool,
+}
+
+// Whether going from one place to another passes an eighth of the whole.
+fn passes_eighth(from: usize, to: usize, all: usize) -> bool {
+    let step = all / 8 + 1;
+    from / step != to / step
+}
+
+// A line for each frame of a short upload, and for each eighth of a long one.
+fn is_told(from: usize, to: usize, all: usize, piece: usize) -> bool {
+    all / 16 < piece || to == all || passes_eighth(from, to, all)
+}
+
+fn tell_progress(to: usize, all: usize, count: usize, held: usize) {
+    told(b"  ", to, b" of ");
+    many(all, b"byte");
+    say(b" accepted, ");
+    many(count, b"page");
+    say(b" erased, ");
+    many(held, b"byte");
+    say(b" waiting\n");
+}
+
+// An upload of at most two frames is told whole.
+fn is_short(all: usize, piece: usize) -> bool {
+    if 1000 < piece {
+        return false;
+    }
+    all <= piece * 2
+}
+
+// Whether a frame was accepted, and where the upload stopped if not.
+fn is_accepted(status: usize, at: usize) -> bool {
+    if status == 0 {
+        return true;
+    }
+    told(b"  the upload stopped at address ", at, b"\n");
+    false
+}
+
+fn accepted(t: Turn, at: usize) -> Sent {
+    let desk = t.desk;
+    let fine = is_accepted(t.heard.status, at);
+    Sent { desk, fine }
+}
+
+// One frame of the upload.
+fn send_piece(
+    d: Desk,
+    loud: bool,
+    at: usize,
+    piece: &[u8],
+    flash: &mut [u8],
+    book: &mut [u8],
+) -> Sent {
+    let asked = command(d, 0x06, 0, loud);
+    let t = request(d, Request::Write { address: at }, asked, piece, flash, book);
+    accepted(t, at)
+}
+
+// How far an accepted frame has brought the upload.
+fn progress(s: Sent, from: usize, to: usize, all: usize, piece: usize) {
+    if s.fine {
+        if is_told(from, to, all, piece) {
+            let d = s.desk;
+            tell_progress(to, all, d.count(), d.held());
+        }
+    }
+}
+
+// The end of the piece that begins at a place of an image.
+fn piece_end(at: usize, piece: usize, all: usize) -> usize {
+    if all <= at {
+        return all;
+    }
+    at + least(piece, all - at)
+}
+
+// A part of an image; empty where there is none.
+fn part<'a>(s: &'a [u8], from: usize, to: usize) -> &'a [u8] {
+    if s.len() < to || to < from {
+        return &s[0..0];
+    }
+    &s[from..to]
+}
+
+// All frames.
+fn send_all(d: Desk, piece: usize, all: &[u8], flash: &mut [u8], book: &mut [u8]) -> Sent {
+    let mut s = Sent {
+        desk: d,
+        fine: true,
+    };
+    let loud = is_short(all.len(), piece);
+    let mut at = 0;
+    let mut turns = all.len();
+    while 0 < turns {
+        turns -= 1;
+        if !s.fine || all.len() <= at {
+            return s;
+        }
+        let end = piece_end(at, piece, all.len());
+        s = send_piece(s.desk, loud, at, part(all, at, end), flash, book);
+        progress(s, at, end, all.len(), piece);
+        at = end;
+    }
+    s
+}
+
+// The most bytes that one read gives.
+fn longest_read(d: Desk) -> usize {
+    let bus = d.bus();
+    let longest = d.profile.longest;
+    let head = match bus {
+        Bus::I2c => 3,
+        Bus::Rs485 => 5,
+    };
+    if longest <= head { 1 } else { longest - head }
+}
+
+// Whether a read gave what was sent.
+fn is_right(status: usize, at: usize) -> bool {
+    if status == 0 {
+        return true;
+    }
+    told(
+        b"  ** read back: the bytes from address ",
+        at,
+        b" on are not as sent **\n",
+    );
+    false
+}
+
+fn right(t: Turn, at: usize) -> Sent {
+    let desk = t.desk;
+    let fine = is_right(t.heard.status, at);
+    Sent { desk, fine }
+}
+
+// One read, compared with what was sent.
+fn read_piece(d: Desk, at: usize, piece: &[u8], flash: &mut [u8], book: &mut [u8]) -> Sent {
+    let length = piece.len();
+    let asked = command(d, 0x08, length, false);
+    let r = Request::Read {
+        address: at,
+        length,
+    };
+    let t = request(d, r, asked, piece, flash, book);
+    right(t, at)
+}
+
+// The whole image, read back.
+fn read_all(d: Desk, all: &[u8], flash: &mut [u8], book: &mut [u8]) -> Sent {
+    let most = longest_read(d);
+    let mut s = Sent {
+        desk: d,
+        fine: true,
+    };
+    let mut at = 0;
+    let mut turns = all.len();
+    while 0 < turns {
+        turns -= 1;
+        if !s.fine || all.len() <= at {
+            return s;
+        }
+        let end = piece_end(at, most, all.len());
+        s = read_piece(s.desk, at, part(all, at, end), flash, book);
+        at = end;
+    }
+    s
+}
+
+fn tell_done(fine: bool, n: usize, count: usize) {
+    if !fine {
+        return;
+    }
+    say(b"  read back: ");
+    many(n, b"byte");
+    say(b" as sent\n  upload done: ");
+    many(count, b"page");
+    say(b" erased\n");
+    tell_count(n, count);
+}
+
+// Finalize.
+fn finalize(d: Desk, flash: &mut [u8], book: &mut [u8]) -> Turn {
+    say(b"  finalize\n");
+    let asked = command(d, 0x07, 0, true);
+    request(d, Request::Plain(0x07), asked, b"", flash, book)
+}
+
+// Finalize, and read back.
+fn finish(d: Desk, all: &[u8], flash: &mut [u8], book: &mut [u8]) -> Desk {
+    let t = finalize(d, flash, book);
+    if t.heard.status != 0 {
+        return t.desk;
+    }
+    let s = read_all(t.desk, all, flash, book);
+    tell_done(s.fine, all.len(), t.heard.count);
+    s.desk
+}
+
+// The bytes that wait behind a long upload.
+fn warn_long(short: bool, held: usize) {
+    if !short {
+        warn_waiting(held);
+    }
+}
+
+// What follows the frames, if each was accepted.
+fn finish_sent(s: Sent, short: bool, all: &[u8], flash: &mut [u8], book: &mut [u8]) -> Desk {
+    let after = s.desk;
+    if !s.fine {
+        return after;
+    }
+    warn_long(short, after.held());
+    finish(after, all, flash, book)
+}
+
+fn upload(d: Desk, piece: usize, all: &[u8], flash: &mut [u8], book: &mut [u8]) -> Desk {
+    let s = send_all(d, piece, all, flash, book);
+    finish_sent(s, is_short(all.len(), piece), all, flash, book)
+}
+
+// The length of the pieces.
+fn pieces(s: &[u8]) -> Parsed {
+    match which(first(s), b"frames") {
+        0 => number(rest(s), 252),
+        _ => Parsed::Wrong,
+    }
+}
+
+// The bytes to upload, at the start of the image: how many, more than it has for wrong ones.
+fn loaded(s: &[u8], image: &mut [u8]) -> usize {
+    let got = data(s, image);
+    match got {
+        Parsed::Value(n) => n,
+        Parsed::Wrong => 10000000,
+    }
+}
+
+fn wrong(d: Desk) -> Desk {
+    d.refused(
+        b"upload and then HEX, fill BYTE COUNT or file NAME, then frames N: at least one byte, N of them in a frame, 1 to 252",
+    )
+}
+
+// `upload DATA frames N`
+pub fn obey(d: Desk, s: &[u8], image: &mut [u8], flash: &mut [u8], book: &mut [u8]) -> Desk {
+    let length = pieces(after_data(s));
+    let Parsed::Value(piece) = length else {
+        return wrong(d);
+    };
+    if piece == 0 {
+        return wrong(d);
+    }
+    let n = loaded(s, image);
+    if n == 0 || image.len() < n {
+        return wrong(d);
+    }
+    upload(d, piece, &image[0..n], flash, book)
+}

@@ -1,0 +1,4 @@
+// Lines of a script that set the bench up, and lines that show how it stands.
+mod boards;
+pub mod setup;
+pub mod shown;

@@ -1,0 +1,174 @@
+// Lines that show: state, map, help; and the last words.
+use desk::pages::times;
+use desk::table::Desk;
+use profile::Profile;
+use rules::kinds::Address;
+use rules::kinds::Bus;
+use script::words::least;
+use script::words::place;
+use script::words::say;
+use script::words::told;
+use script::words::wide;
+
+fn tell_bus(bus: Bus) {
+    match bus {
+        Bus::I2c => say(b"  a fresh board on I2C: "),
+        Bus::Rs485 => say(b"  a fresh board on RS485: "),
+    }
+}
+
+pub(crate) fn show_profile(p: Profile) {
+    let bus = p.bus;
+    tell_bus(bus);
+    told(b"M ", p.longest, b"");
+    told(b", S ", p.size, b"");
+    told(b", O ", p.offset, b"");
+    told(b", type ", wide(p.hardware), b"\n");
+}
+
+fn tell_address(own: Address) {
+    match own {
+        Address::DefaultRange => say(b"  the board listens to 8 to 15, the default range"),
+        Address::Own(a) => told(b"  the board listens to ", wide(a), b""),
+    }
+}
+
+fn tell_running(running: bool) {
+    if running {
+        say(b"; the application runs\n");
+    } else {
+        say(b"; the bootloader runs\n");
+    }
+}
+
+fn tell_upload(next: usize, held: usize, count: usize, last: usize) {
+    told(b"  next address ", next, b", waiting bytes ");
+    told(b"", held, b", erase count ");
+    told(b"", count, b", last reply ");
+    told(b"", last, b" bytes\n");
+}
+
+fn show_state(d: Desk) {
+    let s = d.state;
+    let own = s.address;
+    tell_address(own);
+    tell_running(s.running);
+    tell_upload(d.next(), d.held(), d.count(), s.last.len);
+}
+
+// The mark of a page that was rewritten so often.
+fn times_mark(n: u8) -> u8 {
+    if n == 0 {
+        return b'.';
+    }
+    if n < 10 { 48 + n } else { b'+' }
+}
+
+// The mark of a page.
+fn mark(page: usize, waiting: usize, book: &[u8]) -> u8 {
+    if page == waiting {
+        return b'w';
+    }
+    times_mark(times(page, book))
+}
+
+// The page with waiting bytes, if there is one.
+fn waiting_page(held: usize, next: usize) -> usize {
+    if held == 0 { 65536 } else { next / 64 }
+}
+
+// What stands before a page's mark: a new line with the address every 32 pages.
+fn margin(page: usize) {
+    if page % 32 != 0 {
+        return;
+    }
+    if page != 0 {
+        say(b"\n");
+    }
+    say(b"  ");
+    place(least(page, 1023) * 64);
+    say(b"  ");
+}
+
+fn show_page(page: usize, waiting: usize, book: &[u8]) {
+    margin(page);
+    say(&[mark(page, waiting, book)]);
+}
+
+fn show_pages(pages: usize, waiting: usize, book: &[u8]) {
+    let mut page = 0;
+    while page < pages {
+        show_page(page, waiting, book);
+        page += 1;
+    }
+}
+
+fn show_map(d: Desk, book: &[u8]) {
+    say(
+        b"  a mark for each page of 64 bytes: . untouched, 1 to 9 rewritten so often, + more often, w bytes wait\n",
+    );
+    show_pages(
+        least(d.profile.size / 64, 1023),
+        waiting_page(d.held(), d.next()),
+        book,
+    );
+    say(b"\n");
+}
+
+fn show_help() {
+    say(
+        b"  Numbers are decimal; bytes, HEX and BYTE are hexadecimal digits. The first byte of a frame is byte 1.
+  board i2c|rs485 [M n] [S n] [O n] [type n] [compatible n] [actual n] [bootloader n] [serial HEX]
+  flash fill BYTE | flash file NAME              the flash that the board is lent
+  version | info | serial | revision | longest   ask the board
+  set-address ADDRESS type TYPE                  give the board an address; type 0 is any
+  to ADDRESS                                     where the master sends to
+  write ADDRESS HEX | write ADDRESS fill BYTE COUNT | write ADDRESS file NAME
+  finalize | read ADDRESS LENGTH | start | reset | reset-address
+  upload file NAME frames N | upload fill BYTE COUNT frames N | upload HEX frames N
+  send ADDRESS BYTES                             a frame as it is, all in hexadecimal: send 08 00f3
+  i2c-read [ADDRESS]                             read the last reply once more
+  damage byte N | damage reply N                 of the next frame, of the next reply
+  state | map | say TEXT | help | # a comment
+",
+    );
+}
+
+// `state`, `map`, `help`: by their numbers.
+pub fn obey(d: Desk, k: usize, book: &[u8]) {
+    match k {
+        0 => show_state(d),
+        1 => show_map(d, book),
+        _ => show_help(),
+    }
+}
+
+fn tell_waiting(held: usize) {
+    if 0 < held {
+        told(
+            b"** the script ends: ",
+            held,
+            b" bytes still wait in the board and are not in flash **\n",
+        );
+    }
+}
+
+fn tell_wrong(wrong: usize, lines: usize) {
+    if 0 < wrong {
+        told(b"** ", wrong, b" of ");
+        told(b"", lines, b" lines were not understood **\n");
+    }
+}
+
+// The last words: what still waits, and lines that were not understood.
+pub fn farewell(d: Desk) {
+    tell_waiting(d.held());
+    tell_wrong(d.wrong, d.lines);
+}
+
+// A line of the script, with what stands before it.
+pub fn line(before: &[u8], s: &[u8]) {
+    say(before);
+    say(s);
+    say(b"\n");
+}
