@@ -1,5 +1,7 @@
 // The fields of an answer: numbers, byte strings, the state, and whether an output is untouched.
 use board::Answer;
+use numbers::board_number;
+use numbers::reply_length;
 use rules::kinds::Address;
 use rules::kinds::Outcome;
 use state::Last;
@@ -51,26 +53,6 @@ pub fn put_untouched(out: &mut [u8], at: usize, lent: &[u8], made: usize) -> usi
     put_number(out, at, one_if(is_untouched(lent, made)))
 }
 
-// The number of an answer.
-fn number(outcome: Outcome) -> usize {
-    match outcome {
-        Outcome::Reply(_) => 0,
-        Outcome::Nothing => 1,
-        Outcome::ProfileOutOfRange => 2,
-        Outcome::FlashTooShort => 3,
-        Outcome::StateMalformed => 4,
-        Outcome::BufferTooShort => 5,
-    }
-}
-
-// How many bytes of reply it has.
-fn made(outcome: Outcome) -> usize {
-    match outcome {
-        Outcome::Reply(n) => n,
-        _ => 0,
-    }
-}
-
 // 256 is the default range.
 fn own(address: Address) -> usize {
     match address {
@@ -108,8 +90,8 @@ fn put_state(out: &mut [u8], at: usize, s: State) -> usize {
 // letter number reply
 fn put_outcome(out: &mut [u8], at: usize, letter: u8, outcome: Outcome, reply: &[u8]) -> usize {
     let mut to = write_byte(out, at, letter);
-    to = put_number(out, to, number(outcome));
-    put_hex(out, to, first(reply, made(outcome)))
+    to = put_number(out, to, board_number(outcome) as usize);
+    put_hex(out, to, first(reply, reply_length(outcome)))
 }
 
 // flashhash
@@ -131,6 +113,6 @@ pub fn put_answer(
     let mut to = put_outcome(out, at, letter, outcome, reply);
     to = put_state(out, to, answer.state);
     to = put_hash(out, to, flash);
-    to = put_untouched(out, to, reply, made(outcome));
+    to = put_untouched(out, to, reply, reply_length(outcome));
     write_byte(out, to, b'\n')
 }

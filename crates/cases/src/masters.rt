@@ -6,6 +6,9 @@ use crate::answers::put_untouched;
 use crate::setup::MOST;
 use crate::setup::bus_of;
 use crate::setup::byte;
+use numbers::decoded_number;
+use numbers::encoded_length;
+use numbers::encoded_number;
 use rules::kinds::Bus;
 use rules::requests::Decoded;
 use rules::requests::Encoded;
@@ -44,27 +47,11 @@ fn request_of(code: usize, a: usize, b: usize) -> Request {
     }
 }
 
-fn encoded_number(e: Encoded) -> usize {
-    match e {
-        Encoded::Made(_) => 0,
-        Encoded::FrameOutOfRange => 2,
-        Encoded::OutputTooShort => 6,
-        Encoded::ArgumentOutOfRange => 7,
-    }
-}
-
-fn encoded_length(e: Encoded) -> usize {
-    match e {
-        Encoded::Made(n) => n,
-        _ => 0,
-    }
-}
-
 // The line of an encoder call: E number request bufferok
 fn put_encoded(out: &mut [u8], at: usize, e: Encoded, made: &[u8]) -> usize {
     let n = encoded_length(e);
     let mut to = write_byte(out, at, b'E');
-    to = put_number(out, to, encoded_number(e));
+    to = put_number(out, to, encoded_number(e) as usize);
     to = put_hex(out, to, first(made, n));
     to = put_untouched(out, to, made, n);
     write_byte(out, to, b'\n')
@@ -134,16 +121,10 @@ fn put_four(
 }
 
 fn put_decoded(out: &mut [u8], at: usize, d: Decoded) -> usize {
-    match d {
-        Decoded::Reply { status, start, len } => put_four(out, at, 0, status as usize, start, len),
-        Decoded::NotServed => put_four(out, at, 7, 0, 0, 0),
-        Decoded::TooShort => put_four(out, at, 8, 0, 0, 0),
-        Decoded::SumWrong => put_four(out, at, 9, 0, 0, 0),
-        Decoded::OtherAddress => put_four(out, at, 10, 0, 0, 0),
-        Decoded::LengthWrong => put_four(out, at, 11, 0, 0, 0),
-        Decoded::StatusUnknown => put_four(out, at, 12, 0, 0, 0),
-        Decoded::ResultsMissing => put_four(out, at, 13, 0, 0, 0),
-    }
+    let Decoded::Reply { status, start, len } = d else {
+        return put_four(out, at, decoded_number(d) as usize, 0, 0, 0);
+    };
+    put_four(out, at, 0, status as usize, start, len)
 }
 
 // D bus code address asked reply

@@ -1,8 +1,8 @@
 // The board's calls: the fresh state, a received frame, an I²C read.
-use crate::answers::clip;
-use crate::answers::made_by;
-use crate::answers::number_of;
+use crate::requests::clip;
 use crate::settle::settle;
+use numbers::board_number;
+use numbers::reply_length;
 use state::State;
 ghost use mathlib.Core.Path.{_≡_};
 ghost use Rattle.childbus.specs.BoardBytes.{freshLeft, FreshLeft, receivedLeft, ReceivedLeft, readLeft, ReadLeft};
@@ -41,8 +41,8 @@ pub extern "C" fn childbus_receive(
     let answer = board::receive(p, s, clip(address), frame, flash, out);
     let outcome = answer.outcome;
     let left = answer.state;
-    *made = made_by(outcome);
-    let number = number_of(outcome);
+    *made = reply_length(outcome);
+    let number = board_number(outcome);
     if 2 <= number {
         return number;
     }
@@ -68,8 +68,8 @@ pub extern "C" fn childbus_read(
     let held = layout::states::state_from(state);
     let answer = board::read(built, held, clip(address), flash, out);
     let told = answer.outcome;
-    *made = made_by(told);
-    number_of(told)
+    *made = reply_length(told);
+    board_number(told)
 }
 
 // What a call leaves in the state buffer says the state that the rules give.

@@ -1,6 +1,6 @@
 // The master's side of replies: decoder, a reply read twice, version rule.
-use crate::answers::clip;
-use crate::answers::decoded_number;
+use crate::requests::clip;
+use numbers::decoded_number;
 use rules::kinds::Bus;
 use rules::requests::Decoded;
 use rules::requests::Version;

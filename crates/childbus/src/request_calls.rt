@@ -1,8 +1,8 @@
 // The master's requests: commands and general calls.
-use crate::answers::encoded_length;
-use crate::answers::encoded_number;
-use crate::answers::general_of;
-use crate::answers::request_of;
+use crate::requests::general_of;
+use crate::requests::request_of;
+use numbers::encoded_length;
+use numbers::encoded_number;
 use rules::requests::Request;
 ghost use mathlib.Core.Path.{_≡_};
 ghost use mathlib.Core.List.{[]};

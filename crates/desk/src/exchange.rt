@@ -4,6 +4,7 @@ use crate::pages;
 use crate::table::Desk;
 use crate::table::heard_at;
 use board::Answer;
+use numbers::board_number;
 use profile::Profile;
 use rules::kinds::Bus;
 use rules::kinds::Outcome;
@@ -114,7 +115,7 @@ pub fn read_back(
             unheard()
         }
         _ => {
-            meaning::tell_number(meaning::outcome_number(outcome));
+            meaning::tell_number(board_number(outcome) as usize);
             unheard()
         }
     }

@@ -1,4 +1,7 @@
 // What a number, a status and a silence mean, and what to do about them. docs/NUMBERS.md has all of them at length.
+use numbers::board_number;
+use numbers::decoded_number;
+use numbers::encoded_number;
 use rules::kinds::Outcome;
 use rules::kinds::Verdict;
 use rules::requests::Decoded;
@@ -42,46 +45,6 @@ pub fn tell_status(status: u8) {
     do: send the frame again|INVALID_ARGUMENTS: not allowed for this command; nothing was done
     do: look at addresses and lengths; a write goes to 0 or to the next address, and ends within S",
     );
-}
-
-// The numbers of the board's answers.
-pub fn outcome_number(o: Outcome) -> usize {
-    match o {
-        Outcome::Reply(_) => 0,
-        Outcome::Nothing => 1,
-        Outcome::ProfileOutOfRange => 2,
-        Outcome::FlashTooShort => 3,
-        Outcome::StateMalformed => 4,
-        Outcome::BufferTooShort => 5,
-    }
-}
-
-// Those of the encoder's.
-pub fn encoded_number(e: Encoded) -> usize {
-    match e {
-        Encoded::Made(_) => 0,
-        Encoded::FrameOutOfRange => 2,
-        Encoded::OutputTooShort => 6,
-        Encoded::ArgumentOutOfRange => 7,
-    }
-}
-
-// Those of the decoder's.
-pub fn decoded_number(r: Decoded) -> usize {
-    match r {
-        Decoded::Reply {
-            status: _,
-            start: _,
-            len: _,
-        } => 0,
-        Decoded::NotServed => 7,
-        Decoded::TooShort => 8,
-        Decoded::SumWrong => 9,
-        Decoded::OtherAddress => 10,
-        Decoded::LengthWrong => 11,
-        Decoded::StatusUnknown => 12,
-        Decoded::ResultsMissing => 13,
-    }
 }
 
 // A command that the board hears and has no reply to: set address for another type, start, or another.
@@ -134,7 +97,7 @@ pub fn tell_silence(v: Verdict, code: usize) {
 pub fn tell_answer(o: Outcome, v: Verdict, code: usize) {
     match o {
         Outcome::Nothing => tell_silence(v, code),
-        _ => tell_number(outcome_number(o)),
+        _ => tell_number(board_number(o) as usize),
     }
 }
 
@@ -150,12 +113,12 @@ pub fn tell_no_read() {
 
 // A request that the master did not make.
 pub fn tell_unmade(e: Encoded) {
-    tell_number(encoded_number(e));
+    tell_number(encoded_number(e) as usize);
     say(b"  nothing was sent\n");
 }
 
 // A reply that the master cannot use.
 pub fn tell_undecoded(r: Decoded) {
     say(b"  the master:\n");
-    tell_number(decoded_number(r));
+    tell_number(decoded_number(r) as usize);
 }

@@ -16,11 +16,11 @@ clip-requires c κs = search needs
 read-requires : tie.Need-read-requires
 read-requires c κs = search needs
 
-made-by-requires : tie.Need-made-by-requires
-made-by-requires c κs = search needs
+reply-length-requires : tie.Need-reply-length-requires
+reply-length-requires c κs = search needs
 
-number-of-requires : tie.Need-number-of-requires
-number-of-requires c κs = search needs
+board-number-requires : tie.Need-board-number-requires
+board-number-requires c κs = search needs
 
 same-length : tie.Need-same-length
 same-length c = search needs
@@ -37,8 +37,8 @@ returns c =
     (profile .profile-from .ensures)
     (state .state-from .ensures)
     (address .clip .ensures)
-    (c .number-of .ensures)
-    (made .made-by .ensures)
+    (c .board-number .ensures)
+    (made .reply-length .ensures)
     (read .read .ensures)
 
 pub childbus-read-spec : {M : Type 1} → statement M
@@ -49,7 +49,7 @@ childbus-read-spec =
     state-from-requires
     clip-requires
     read-requires
-    made-by-requires
-    number-of-requires
+    reply-length-requires
+    board-number-requires
     same-length
     returns)

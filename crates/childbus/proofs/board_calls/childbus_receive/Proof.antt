@@ -16,11 +16,11 @@ clip-requires c κs = search needs
 receive-requires : tie.Need-receive-requires
 receive-requires c κs = search needs
 
-made-by-requires : tie.Need-made-by-requires
-made-by-requires c κs = search needs
+reply-length-requires : tie.Need-reply-length-requires
+reply-length-requires c κs = search needs
 
-number-of-requires : tie.Need-number-of-requires
-number-of-requires c κs = search needs
+board-number-requires : tie.Need-board-number-requires
+board-number-requires c κs = search needs
 
 same-length : tie.Need-same-length
 same-length c = search needs
@@ -44,8 +44,8 @@ returns c =
     (profile .profile-from .ensures)
     (state .state-from .ensures)
     (address .clip .ensures)
-    (number .number-of .ensures)
-    (made .made-by .ensures)
+    (number .board-number .ensures)
+    (made .reply-length .ensures)
     (args .frame .now)
     (received .receive .ensures)
     (c .if1 .taken)
@@ -81,8 +81,8 @@ returns-2 c =
     (profile .profile-from .ensures)
     (state .state-from .ensures)
     (address .clip .ensures)
-    (number .number-of .ensures)
-    (made .made-by .ensures)
+    (number .board-number .ensures)
+    (made .reply-length .ensures)
     (args .frame .now)
     (received .receive .ensures)
     (tested .if1 .left)
@@ -97,8 +97,8 @@ childbus-receive-spec =
     state-from-requires
     clip-requires
     receive-requires
-    made-by-requires
-    number-of-requires
+    reply-length-requires
+    board-number-requires
     same-length
     same-length-2
     same-length-3

@@ -1,8 +1,8 @@
--- `childbus::answers::request_of` meets its contract: its arms are the tests of `requestOf`. Assumes nothing.
+-- `childbus::requests::request_of` meets its contract: its arms are the tests of `requestOf`. Assumes nothing.
 use borrow.Author.Tests.{ne-eqb}
 use Rattle.childbus.specs.MasterBytes.{requestOf}
-use Rattle.childbus.proofs.answers.request_of.Statement.{statement}
-use Rattle.childbus.proofs.answers.request_of.Tie as tie
+use Rattle.childbus.proofs.requests.request_of.Statement.{statement}
+use Rattle.childbus.proofs.requests.request_of.Tie as tie
 
 returns : tie.Need-returns
 unfolding requestOf

@@ -1,21 +1,13 @@
-// The numbers and values of answers, as document 01 gives them for each case; and numbers of 32 bits where the crates below take bytes.
+// The number of each answer, and how many bytes it made, as document 01 lists them: once, for the C boundary and for programs.
 use rules::kinds::Outcome;
 use rules::requests::Decoded;
 use rules::requests::Encoded;
-use rules::requests::Request;
 ghost use mathlib.Core.Path.{_≡_};
 ghost use Rattle.rules.specs.Numbers.{number, made};
 ghost use Rattle.rules.specs.Master.{encodedNumber, encodedLength, decodedAs};
-ghost use Rattle.childbus.specs.MasterBytes.{clipped, requestOf, generalOf};
 
-// A number over 255 is 255.
-pub fn clip(x: u32) -> u8
-    ensures { λ r. ⌜ r ≡ clipped x ⌝ }
-{
-    if 255 < x { 255 } else { x as u8 }
-}
-
-pub fn number_of(outcome: Outcome) -> u32
+// A board call.
+pub fn board_number(outcome: Outcome) -> u32
     ensures { λ r. ⌜ r ≡ number outcome ⌝ }
 {
     match outcome {
@@ -28,7 +20,8 @@ pub fn number_of(outcome: Outcome) -> u32
     }
 }
 
-pub fn made_by(outcome: Outcome) -> usize
+// The length of its reply; 0 where there is none.
+pub fn reply_length(outcome: Outcome) -> usize
     ensures { λ r. ⌜ r ≡ made outcome ⌝ }
 {
     match outcome {
@@ -41,37 +34,7 @@ pub fn made_by(outcome: Outcome) -> usize
     }
 }
 
-// The command with just the arguments that it has.
-pub fn request_of(code: u32, a: u32, b: u32) -> Request
-    ensures { λ r. ⌜ r ≡ requestOf code a b ⌝ }
-{
-    match code {
-        0x01 => Request::SetAddress {
-            address: a as usize,
-            hardware: b as usize,
-        },
-        0x06 => Request::Write {
-            address: a as usize,
-        },
-        0x08 => Request::Read {
-            address: a as usize,
-            length: b as usize,
-        },
-        _ => Request::Plain(code as usize),
-    }
-}
-
-// 0: reset address. Anything else: reset.
-pub fn general_of(reset: u32) -> Request
-    ensures { λ r. ⌜ r ≡ generalOf reset ⌝ }
-{
-    if reset == 0 {
-        Request::ResetAddress
-    } else {
-        Request::Reset
-    }
-}
-
+// A request asked of the encoder.
 pub fn encoded_number(answer: Encoded) -> u32
     ensures { λ r. ⌜ r ≡ encodedNumber answer ⌝ }
 {
@@ -83,6 +46,7 @@ pub fn encoded_number(answer: Encoded) -> u32
     }
 }
 
+// Its length; 0 where there is none.
 pub fn encoded_length(answer: Encoded) -> usize
     ensures { λ r. ⌜ r ≡ encodedLength answer ⌝ }
 {
@@ -94,6 +58,7 @@ pub fn encoded_length(answer: Encoded) -> usize
     }
 }
 
+// A reply taken apart.
 pub fn decoded_number(answer: Decoded) -> u32
     ensures { λ r. ⌜ r ≡ decodedAs answer .number ⌝ }
 {

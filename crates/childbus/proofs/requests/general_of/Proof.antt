@@ -1,7 +1,7 @@
--- `childbus::answers::general_of` meets its contract, by its test. Assumes nothing.
+-- `childbus::requests::general_of` meets its contract, by its test. Assumes nothing.
 use borrow.Author.Tests.{eq-eqb, ne-eqb}
-use Rattle.childbus.proofs.answers.general_of.Statement.{statement}
-use Rattle.childbus.proofs.answers.general_of.Tie as tie
+use Rattle.childbus.proofs.requests.general_of.Statement.{statement}
+use Rattle.childbus.proofs.requests.general_of.Tie as tie
 
 returns : tie.Need-returns
 returns c = rw (eq-eqb _ _ (c .if1 .taken))

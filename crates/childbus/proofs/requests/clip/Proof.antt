@@ -1,8 +1,8 @@
--- `childbus::answers::clip` meets its contract, by its test. Assumes nothing.
+-- `childbus::requests::clip` meets its contract, by its test. Assumes nothing.
 use borrow.Author.Tests.{lt-ltb, le-ltb}
 use borrow.Author.Needs.{needs}
-use Rattle.childbus.proofs.answers.clip.Statement.{statement}
-use Rattle.childbus.proofs.answers.clip.Tie as tie
+use Rattle.childbus.proofs.requests.clip.Statement.{statement}
+use Rattle.childbus.proofs.requests.clip.Tie as tie
 
 cast-result : tie.Need-cast-result
 cast-result c = search needs
