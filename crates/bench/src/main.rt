@@ -1,21 +1,21 @@
 // The bench: plays a board, and the master beside it, from a script of plain lines, and says in words what happened.
 // The script is the file that the first argument names, or standard input. The lines are listed by `help` and in docs/BENCH.md.
 use crate::turns::turn;
-use desk::table::Desk;
+use exchange::bench::Bench;
 use script::words::say;
-use settings::shown::farewell;
+use settings::shown::tell_end;
 
 mod turns;
 
 // The whole script.
-fn run(fd: i32, line: &mut [u8], image: &mut [u8], flash: &mut [u8], book: &mut [u8]) {
-    let mut d = Desk::new();
+fn run(fd: i32, line: &mut [u8], image: &mut [u8], flash: &mut [u8], history: &mut [u8]) {
+    let mut d = Bench::new();
     let mut turns = u64::MAX;
     while 0 < turns && !d.over {
-        d = turn(d, fd, line, image, flash, book);
+        d = turn(d, fd, line, image, flash, history);
         turns -= 1;
     }
-    farewell(d);
+    tell_end(d);
 }
 
 // A new bench: erased flash, and nothing rewritten.
@@ -23,9 +23,9 @@ fn start(fd: i32) {
     let mut line = [0u8; 2048];
     let mut image = [0u8; 131072];
     let mut flash = [0xffu8; 131072];
-    let mut book = [0u8; 132096];
-    desk::pages::begin(&flash, &mut book);
-    run(fd, &mut line, &mut image, &mut flash, &mut book);
+    let mut history = [0u8; 132096];
+    exchange::pages::begin(&flash, &mut history);
+    run(fd, &mut line, &mut image, &mut flash, &mut history);
 }
 
 // The script in a file.

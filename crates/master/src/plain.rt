@@ -1,16 +1,16 @@
 // Lines of one word by which the master makes a request: commands without arguments, and the general calls.
-use desk::requests::command;
-use desk::requests::general;
-use desk::requests::request;
-use desk::table::Desk;
-use desk::table::FIRST;
+use exchange::bench::Bench;
+use exchange::bench::FIRST;
+use exchange::requests::command;
+use exchange::requests::general;
+use exchange::requests::request;
 use rules::requests::Request;
 use wording::reply::tell_count;
 
-fn plain(d: Desk, code: usize, flash: &mut [u8], book: &mut [u8]) -> Desk {
+fn plain(d: Bench, code: usize, flash: &mut [u8], history: &mut [u8]) -> Bench {
     let asked = command(d, code, 0, true);
-    let t = request(d, Request::Plain(code), asked, b"", flash, book);
-    let after = t.desk;
+    let t = request(d, Request::Plain(code), asked, b"", flash, history);
+    let after = t.bench;
     if code == 0x07 && t.heard.status == 0 {
         tell_count(after.next(), t.heard.count);
     }
@@ -18,9 +18,9 @@ fn plain(d: Desk, code: usize, flash: &mut [u8], book: &mut [u8]) -> Desk {
 }
 
 // The two general calls.
-fn reset(d: Desk, r: Request, flash: &mut [u8], book: &mut [u8]) -> Desk {
-    let t = request(d, r, general(d), b"", flash, book);
-    let after = t.desk;
+fn reset(d: Bench, r: Request, flash: &mut [u8], history: &mut [u8]) -> Bench {
+    let t = request(d, r, general(d), b"", flash, history);
+    let after = t.bench;
     after.sending_to(FIRST)
 }
 
@@ -38,13 +38,13 @@ fn plain_code(k: usize) -> usize {
 }
 
 // `version`, `info`, `serial`, `revision`, `longest`, `finalize`, `start`, `reset`, `reset-address`: by their numbers.
-pub fn obey(d: Desk, k: usize, s: &[u8], flash: &mut [u8], book: &mut [u8]) -> Desk {
+pub fn obey(d: Bench, k: usize, s: &[u8], flash: &mut [u8], history: &mut [u8]) -> Bench {
     if s.len() != 0 {
         return d.refused(b"nothing after this word");
     }
     match k {
-        7 => reset(d, Request::Reset, flash, book),
-        8 => reset(d, Request::ResetAddress, flash, book),
-        _ => plain(d, plain_code(k), flash, book),
+        7 => reset(d, Request::Reset, flash, history),
+        8 => reset(d, Request::ResetAddress, flash, history),
+        _ => plain(d, plain_code(k), flash, history),
     }
 }

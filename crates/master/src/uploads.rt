@@ -1,8 +1,8 @@
 // `upload`: a whole image in frames, finalize, and read back.
-use desk::exchange::Turn;
-use desk::requests::command;
-use desk::requests::request;
-use desk::table::Desk;
+use exchange::bench::Bench;
+use exchange::frames::Turn;
+use exchange::requests::command;
+use exchange::requests::request;
 use rules::kinds::Bus;
 use rules::requests::Request;
 use script::fields::Parsed;
@@ -12,8 +12,8 @@ use script::fields::rest;
 use script::fields::which;
 use script::image::after_data;
 use script::image::data;
-use script::words::least;
 use script::words::many;
+use script::words::min;
 use script::words::say;
 use script::words::told;
 use wording::changes::warn_waiting;
@@ -21,7 +21,7 @@ use wording::reply::tell_count;
 
 // An upload so far, and whether each step was OK.
 struct Sent {
-    desk: Desk,
+    bench: Bench,
     fine: bool,
 }
 
@@ -64,22 +64,29 @@ fn is_accepted(status: usize, at: usize) -> bool {
 }
 
 fn accepted(t: Turn, at: usize) -> Sent {
-    let desk = t.desk;
+    let bench = t.bench;
     let fine = is_accepted(t.heard.status, at);
-    Sent { desk, fine }
+    Sent { bench, fine }
 }
 
 // One frame of the upload.
 fn send_piece(
-    d: Desk,
-    loud: bool,
+    d: Bench,
+    verbose: bool,
     at: usize,
     piece: &[u8],
     flash: &mut [u8],
-    book: &mut [u8],
+    history: &mut [u8],
 ) -> Sent {
-    let asked = command(d, 0x06, 0, loud);
-    let t = request(d, Request::Write { address: at }, asked, piece, flash, book);
+    let asked = command(d, 0x06, 0, verbose);
+    let t = request(
+        d,
+        Request::Write { address: at },
+        asked,
+        piece,
+        flash,
+        history,
+    );
     accepted(t, at)
 }
 
@@ -87,7 +94,7 @@ fn send_piece(
 fn progress(s: Sent, from: usize, to: usize, all: usize, piece: usize) {
     if s.fine {
         if is_told(from, to, all, piece) {
-            let d = s.desk;
+            let d = s.bench;
             tell_progress(to, all, d.count(), d.held());
         }
     }
@@ -98,7 +105,7 @@ fn piece_end(at: usize, piece: usize, all: usize) -> usize {
     if all <= at {
         return all;
     }
-    at + least(piece, all - at)
+    at + min(piece, all - at)
 }
 
 // A part of an image; empty where there is none.
@@ -110,12 +117,12 @@ fn part<'a>(s: &'a [u8], from: usize, to: usize) -> &'a [u8] {
 }
 
 // All frames.
-fn send_all(d: Desk, piece: usize, all: &[u8], flash: &mut [u8], book: &mut [u8]) -> Sent {
+fn send_all(d: Bench, piece: usize, all: &[u8], flash: &mut [u8], history: &mut [u8]) -> Sent {
     let mut s = Sent {
-        desk: d,
+        bench: d,
         fine: true,
     };
-    let loud = is_short(all.len(), piece);
+    let verbose = is_short(all.len(), piece);
     let mut at = 0;
     let mut turns = all.len();
     while 0 < turns {
@@ -124,7 +131,7 @@ fn send_all(d: Desk, piece: usize, all: &[u8], flash: &mut [u8], book: &mut [u8]
             return s;
         }
         let end = piece_end(at, piece, all.len());
-        s = send_piece(s.desk, loud, at, part(all, at, end), flash, book);
+        s = send_piece(s.bench, verbose, at, part(all, at, end), flash, history);
         progress(s, at, end, all.len(), piece);
         at = end;
     }
@@ -132,7 +139,7 @@ fn send_all(d: Desk, piece: usize, all: &[u8], flash: &mut [u8], book: &mut [u8]
 }
 
 // The most bytes that one read gives.
-fn longest_read(d: Desk) -> usize {
+fn longest_read(d: Bench) -> usize {
     let bus = d.bus();
     let longest = d.profile.longest;
     let head = match bus {
@@ -156,28 +163,28 @@ fn is_right(status: usize, at: usize) -> bool {
 }
 
 fn right(t: Turn, at: usize) -> Sent {
-    let desk = t.desk;
+    let bench = t.bench;
     let fine = is_right(t.heard.status, at);
-    Sent { desk, fine }
+    Sent { bench, fine }
 }
 
 // One read, compared with what was sent.
-fn read_piece(d: Desk, at: usize, piece: &[u8], flash: &mut [u8], book: &mut [u8]) -> Sent {
+fn read_piece(d: Bench, at: usize, piece: &[u8], flash: &mut [u8], history: &mut [u8]) -> Sent {
     let length = piece.len();
     let asked = command(d, 0x08, length, false);
     let r = Request::Read {
         address: at,
         length,
     };
-    let t = request(d, r, asked, piece, flash, book);
+    let t = request(d, r, asked, piece, flash, history);
     right(t, at)
 }
 
 // The whole image, read back.
-fn read_all(d: Desk, all: &[u8], flash: &mut [u8], book: &mut [u8]) -> Sent {
+fn read_all(d: Bench, all: &[u8], flash: &mut [u8], history: &mut [u8]) -> Sent {
     let most = longest_read(d);
     let mut s = Sent {
-        desk: d,
+        bench: d,
         fine: true,
     };
     let mut at = 0;
@@ -188,7 +195,7 @@ fn read_all(d: Desk, all: &[u8], flash: &mut [u8], book: &mut [u8]) -> Sent {
             return s;
         }
         let end = piece_end(at, most, all.len());
-        s = read_piece(s.desk, at, part(all, at, end), flash, book);
+        s = read_piece(s.bench, at, part(all, at, end), flash, history);
         at = end;
     }
     s
@@ -207,21 +214,21 @@ fn tell_done(fine: bool, n: usize, count: usize) {
 }
 
 // Finalize.
-fn finalize(d: Desk, flash: &mut [u8], book: &mut [u8]) -> Turn {
+fn finalize(d: Bench, flash: &mut [u8], history: &mut [u8]) -> Turn {
     say(b"  finalize\n");
     let asked = command(d, 0x07, 0, true);
-    request(d, Request::Plain(0x07), asked, b"", flash, book)
+    request(d, Request::Plain(0x07), asked, b"", flash, history)
 }
 
 // Finalize, and read back.
-fn finish(d: Desk, all: &[u8], flash: &mut [u8], book: &mut [u8]) -> Desk {
-    let t = finalize(d, flash, book);
+fn finish(d: Bench, all: &[u8], flash: &mut [u8], history: &mut [u8]) -> Bench {
+    let t = finalize(d, flash, history);
     if t.heard.status != 0 {
-        return t.desk;
+        return t.bench;
     }
-    let s = read_all(t.desk, all, flash, book);
+    let s = read_all(t.bench, all, flash, history);
     tell_done(s.fine, all.len(), t.heard.count);
-    s.desk
+    s.bench
 }
 
 // The bytes that wait behind a long upload.
@@ -232,18 +239,18 @@ fn warn_long(short: bool, held: usize) {
 }
 
 // What follows the frames, if each was accepted.
-fn finish_sent(s: Sent, short: bool, all: &[u8], flash: &mut [u8], book: &mut [u8]) -> Desk {
-    let after = s.desk;
+fn finish_sent(s: Sent, short: bool, all: &[u8], flash: &mut [u8], history: &mut [u8]) -> Bench {
+    let after = s.bench;
     if !s.fine {
         return after;
     }
     warn_long(short, after.held());
-    finish(after, all, flash, book)
+    finish(after, all, flash, history)
 }
 
-fn upload(d: Desk, piece: usize, all: &[u8], flash: &mut [u8], book: &mut [u8]) -> Desk {
-    let s = send_all(d, piece, all, flash, book);
-    finish_sent(s, is_short(all.len(), piece), all, flash, book)
+fn upload(d: Bench, piece: usize, all: &[u8], flash: &mut [u8], history: &mut [u8]) -> Bench {
+    let s = send_all(d, piece, all, flash, history);
+    finish_sent(s, is_short(all.len(), piece), all, flash, history)
 }
 
 // The length of the pieces.
@@ -263,14 +270,14 @@ fn loaded(s: &[u8], image: &mut [u8]) -> usize {
     }
 }
 
-fn wrong(d: Desk) -> Desk {
+fn wrong(d: Bench) -> Bench {
     d.refused(
         b"upload and then HEX, fill BYTE COUNT or file NAME, then frames N: at least one byte, N of them in a frame, 1 to 252",
     )
 }
 
 // `upload DATA frames N`
-pub fn obey(d: Desk, s: &[u8], image: &mut [u8], flash: &mut [u8], book: &mut [u8]) -> Desk {
+pub fn obey(d: Bench, s: &[u8], image: &mut [u8], flash: &mut [u8], history: &mut [u8]) -> Bench {
     let length = pieces(after_data(s));
     let Parsed::Value(piece) = length else {
         return wrong(d);
@@ -282,5 +289,5 @@ pub fn obey(d: Desk, s: &[u8], image: &mut [u8], flash: &mut [u8], book: &mut [u
     if n == 0 || image.len() < n {
         return wrong(d);
     }
-    upload(d, piece, &image[0..n], flash, book)
+    upload(d, piece, &image[0..n], flash, history)
 }

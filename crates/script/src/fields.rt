@@ -10,7 +10,7 @@ pub enum Parsed {
 }
 
 // The place of the first byte that is no blank, or the end.
-fn solid(s: &[u8]) -> usize
+fn first_nonblank(s: &[u8]) -> usize
     ensures { λ r. ⌜ r ≤ length (now (s .entry)) ⌝ }
 {
     let mut i = 0;
@@ -25,7 +25,7 @@ fn solid(s: &[u8]) -> usize
 
 // Without the blanks in front.
 pub fn trimmed<'a>(s: &'a [u8]) -> &'a [u8] {
-    let n = solid(s);
+    let n = first_nonblank(s);
     &s[n..]
 }
 
@@ -40,7 +40,7 @@ pub fn second(s: &[u8]) -> usize
     ensures { λ r. ⌜ r ≤ length (now (s .entry)) ⌝ }
 {
     let n = find(s, b' ');
-    n + solid(&s[n..])
+    n + first_nonblank(&s[n..])
 }
 
 // What follows the first field.

@@ -64,7 +64,7 @@ pub fn clean(s: &mut [u8]) {
 }
 
 // A comment or an empty line.
-pub fn is_remark(s: &[u8]) -> bool {
+pub fn is_comment(s: &[u8]) -> bool {
     if s.len() == 0 {
         return true;
     }

@@ -112,12 +112,12 @@ pub fn change(name: &[u8], from: usize, to: usize) {
 }
 
 // One more, up to a number that no script reaches.
-pub fn more(n: usize) -> usize {
+pub fn increment(n: usize) -> usize {
     if n < 1000000000 { n + 1 } else { n }
 }
 
 // The smaller one.
-pub fn least(a: usize, b: usize) -> usize
+pub fn min(a: usize, b: usize) -> usize
     ensures { λ r. ⌜ r ≤ b ⌝ }
 {
     if a < b { a } else { b }

@@ -1,8 +1,8 @@
 // `board`: another board, described by names and values in any order.
 use crate::shown::show_profile;
-use desk::pages::begin;
-use desk::table::Desk;
-use desk::table::usual;
+use exchange::bench::Bench;
+use exchange::bench::default_profile;
+use exchange::pages::begin;
 use profile::Profile;
 use rules::kinds::Bus;
 use script::fields::Parsed;
@@ -121,21 +121,21 @@ fn with_all(p: Profile, s: &[u8]) -> Described {
 // The bus in front, then the rest.
 fn on_bus(s: &[u8]) -> Described {
     match which(first(s), b"i2c rs485") {
-        0 => with_all(usual(Bus::I2c), rest(s)),
-        1 => with_all(usual(Bus::Rs485), rest(s)),
-        _ => wrong(usual(Bus::I2c)),
+        0 => with_all(default_profile(Bus::I2c), rest(s)),
+        1 => with_all(default_profile(Bus::Rs485), rest(s)),
+        _ => wrong(default_profile(Bus::I2c)),
     }
 }
 
 // `board BUS NAME VALUE ..`
-pub(crate) fn set_board(d: Desk, s: &[u8], flash: &[u8], book: &mut [u8]) -> Desk {
+pub(crate) fn set_board(d: Bench, s: &[u8], flash: &[u8], history: &mut [u8]) -> Bench {
     let got = on_bus(s);
     if !got.fine {
         return d.refused(
             b"board i2c or board rs485, then any of M n, S n, O n, type n, compatible n, actual n, bootloader n, serial HEX",
         );
     }
-    begin(flash, book);
+    begin(flash, history);
     let p = got.profile;
     show_profile(p);
     d.with_board(p)

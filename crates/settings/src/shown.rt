@@ -1,10 +1,11 @@
 // Lines that show: state, map, help; and the last words.
-use desk::pages::times;
-use desk::table::Desk;
+use exchange::bench::Bench;
+use exchange::pages::PAGE;
+use exchange::pages::times;
 use profile::Profile;
 use rules::kinds::Address;
 use rules::kinds::Bus;
-use script::words::least;
+use script::words::min;
 use script::words::place;
 use script::words::say;
 use script::words::told;
@@ -48,7 +49,7 @@ fn tell_upload(next: usize, held: usize, count: usize, last: usize) {
     told(b"", last, b" bytes\n");
 }
 
-fn show_state(d: Desk) {
+fn show_state(d: Bench) {
     let s = d.state;
     let own = s.address;
     tell_address(own);
@@ -65,16 +66,16 @@ fn times_mark(n: u8) -> u8 {
 }
 
 // The mark of a page.
-fn mark(page: usize, waiting: usize, book: &[u8]) -> u8 {
+fn mark(page: usize, waiting: usize, history: &[u8]) -> u8 {
     if page == waiting {
         return b'w';
     }
-    times_mark(times(page, book))
+    times_mark(times(page, history))
 }
 
 // The page with waiting bytes, if there is one.
 fn waiting_page(held: usize, next: usize) -> usize {
-    if held == 0 { 65536 } else { next / 64 }
+    if held == 0 { 65536 } else { next / PAGE }
 }
 
 // What stands before a page's mark: a new line with the address every 32 pages.
@@ -86,31 +87,33 @@ fn margin(page: usize) {
         say(b"\n");
     }
     say(b"  ");
-    place(least(page, 1023) * 64);
+    place(min(page, 1023) * PAGE);
     say(b"  ");
 }
 
-fn show_page(page: usize, waiting: usize, book: &[u8]) {
+fn show_page(page: usize, waiting: usize, history: &[u8]) {
     margin(page);
-    say(&[mark(page, waiting, book)]);
+    say(&[mark(page, waiting, history)]);
 }
 
-fn show_pages(pages: usize, waiting: usize, book: &[u8]) {
+fn show_pages(pages: usize, waiting: usize, history: &[u8]) {
     let mut page = 0;
     while page < pages {
-        show_page(page, waiting, book);
+        show_page(page, waiting, history);
         page += 1;
     }
 }
 
-fn show_map(d: Desk, book: &[u8]) {
-    say(
-        b"  a mark for each page of 64 bytes: . untouched, 1 to 9 rewritten so often, + more often, w bytes wait\n",
+fn show_map(d: Bench, history: &[u8]) {
+    told(
+        b"  a mark for each page of ",
+        PAGE,
+        b" bytes: . untouched, 1 to 9 rewritten so often, + more often, w bytes wait\n",
     );
     show_pages(
-        least(d.profile.size / 64, 1023),
+        min(d.profile.size / PAGE, 1023),
         waiting_page(d.held(), d.next()),
-        book,
+        history,
     );
     say(b"\n");
 }
@@ -135,10 +138,10 @@ fn show_help() {
 }
 
 // `state`, `map`, `help`: by their numbers.
-pub fn obey(d: Desk, k: usize, book: &[u8]) {
+pub fn obey(d: Bench, k: usize, history: &[u8]) {
     match k {
         0 => show_state(d),
-        1 => show_map(d, book),
+        1 => show_map(d, history),
         _ => show_help(),
     }
 }
@@ -161,7 +164,7 @@ fn tell_wrong(wrong: usize, lines: usize) {
 }
 
 // The last words: what still waits, and lines that were not understood.
-pub fn farewell(d: Desk) {
+pub fn tell_end(d: Bench) {
     tell_waiting(d.held());
     tell_wrong(d.wrong, d.lines);
 }

@@ -18,7 +18,7 @@ pub struct Asked {
     pub code: usize,
     pub length: usize,
     pub address: u8,
-    pub loud: bool,
+    pub verbose: bool,
 }
 
 pub struct Heard {
@@ -139,7 +139,7 @@ pub fn take_apart(asked: Asked, reply: &[u8], expected: &[u8]) -> Heard {
         return unheard();
     };
     let results = part(reply, start, len);
-    if asked.loud || status != 0 {
+    if asked.verbose || status != 0 {
         tell(code, status, results);
     }
     judged(code, status, results, expected)

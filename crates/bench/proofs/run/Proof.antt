@@ -6,10 +6,10 @@ use Rattle.bench.proofs.run.Statement.{statement}
 use Rattle.bench.proofs.run.Tie as tie
 
 abbrev Inv-loop : tie.InvT-loop
-Inv-loop fd line₀ image₀ flash₀ book₀ d₀ turns₀ line image flash book d turns = (length line ≡ length line₀) × (length image ≡ length image₀) × (length flash ≡ length flash₀) × (length book ≡ length book₀)
+Inv-loop fd line₀ image₀ flash₀ history₀ d₀ turns₀ line image flash history d turns = (length line ≡ length line₀) × (length image ≡ length image₀) × (length flash ≡ length flash₀) × (length history ≡ length history₀)
 
 abbrev μ-loop : tie.MeasureT-loop
-μ-loop fd line₀ image₀ flash₀ book₀ d₀ turns₀ line image flash book d turns = turns
+μ-loop fd line₀ image₀ flash₀ history₀ d₀ turns₀ line image flash history d turns = turns
 
 new-requires : tie.Need-new-requires Inv-loop μ-loop
 new-requires c κs = search needs
@@ -29,8 +29,8 @@ loop-less c = search needs
 loop-again : tie.Need-loop-again Inv-loop μ-loop
 loop-again c = search needs
 
-farewell-requires : tie.Need-farewell-requires Inv-loop μ-loop
-farewell-requires c κs = search needs
+tell-end-requires : tie.Need-tell-end-requires Inv-loop μ-loop
+tell-end-requires c κs = search needs
 
 same-length : tie.Need-same-length Inv-loop μ-loop
 same-length c = search needs
@@ -59,7 +59,7 @@ run-spec =
     sub-turns
     loop-less
     loop-again
-    farewell-requires
+    tell-end-requires
     same-length
     same-length-2
     same-length-3

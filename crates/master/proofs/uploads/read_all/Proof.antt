@@ -6,10 +6,10 @@ use Rattle.master.proofs.uploads.read_all.Statement.{statement}
 use Rattle.master.proofs.uploads.read_all.Tie as tie
 
 abbrev Inv-loop : tie.InvT-loop
-Inv-loop all flash₀ book₀ most s₀ at₀ turns₀ flash book s at turns = (length flash ≡ length flash₀) × (length book ≡ length book₀)
+Inv-loop all flash₀ history₀ most s₀ at₀ turns₀ flash history s at turns = (length flash ≡ length flash₀) × (length history ≡ length history₀)
 
 abbrev μ-loop : tie.MeasureT-loop
-μ-loop all flash₀ book₀ most s₀ at₀ turns₀ flash book s at turns = turns
+μ-loop all flash₀ history₀ most s₀ at₀ turns₀ flash history s at turns = turns
 
 longest-read-requires : tie.Need-longest-read-requires Inv-loop μ-loop
 longest-read-requires c κs = search needs

@@ -6,10 +6,10 @@ use Rattle.master.proofs.uploads.send_all.Statement.{statement}
 use Rattle.master.proofs.uploads.send_all.Tie as tie
 
 abbrev Inv-loop : tie.InvT-loop
-Inv-loop piece all flash₀ book₀ s₀ loud at₀ turns₀ flash book s at turns = (length flash ≡ length flash₀) × (length book ≡ length book₀)
+Inv-loop piece all flash₀ history₀ s₀ verbose at₀ turns₀ flash history s at turns = (length flash ≡ length flash₀) × (length history ≡ length history₀)
 
 abbrev μ-loop : tie.MeasureT-loop
-μ-loop piece all flash₀ book₀ s₀ loud at₀ turns₀ flash book s at turns = turns
+μ-loop piece all flash₀ history₀ s₀ verbose at₀ turns₀ flash history s at turns = turns
 
 is-short-requires : tie.Need-is-short-requires Inv-loop μ-loop
 is-short-requires c κs = search needs

@@ -5,10 +5,10 @@ use Rattle.settings.proofs.shown.show_pages.Statement.{statement}
 use Rattle.settings.proofs.shown.show_pages.Tie as tie
 
 abbrev Inv-loop : tie.InvT-loop
-Inv-loop pages waiting book page₀ page = Unit {0}
+Inv-loop pages waiting history page₀ page = Unit {0}
 
 abbrev μ-loop : tie.MeasureT-loop
-μ-loop pages waiting book page₀ page = pages - page
+μ-loop pages waiting history page₀ page = pages - page
 
 loop-holds : tie.Need-loop-holds Inv-loop μ-loop
 loop-holds c = search needs

@@ -1,11 +1,13 @@
-// Which pages the board rewrote. The book is a copy of the flash, and behind it a count for each page of the working flash; after each call
+// Which pages the board rewrote. The history is a copy of the flash, and behind it a count for each page of the working flash; after each call
 // flash and copy are compared where the upload stands.
 use flash::matches;
 use script::image::copy;
-use script::words::more;
+use script::words::increment;
 use script::words::told;
+use state::State;
 
-const PAGE: usize = 64;
+// A page of the board.
+pub const PAGE: usize = State::PAGE;
 // The length of the lent flash, and of its copy.
 pub const FLASH: usize = 131072;
 
@@ -21,7 +23,7 @@ fn page_start(offset: usize, page: usize) -> usize {
 }
 
 // Whether the page that begins at a place differs from its copy, which then follows it.
-fn page_changed(at: usize, flash: &[u8], book: &mut [u8]) -> bool {
+fn page_changed(at: usize, flash: &[u8], history: &mut [u8]) -> bool {
     if FLASH - PAGE < at {
         return false;
     }
@@ -29,54 +31,60 @@ fn page_changed(at: usize, flash: &[u8], book: &mut [u8]) -> bool {
     if flash.len() < end {
         return false;
     }
-    if book.len() < end {
+    if history.len() < end {
         return false;
     }
-    if matches(&flash[at..end], &book[at..end]) {
+    if matches(&flash[at..end], &history[at..end]) {
         return false;
     }
-    copy(&flash[at..end], &mut book[at..end]);
+    copy(&flash[at..end], &mut history[at..end]);
     true
 }
 
 // How often a page was rewritten.
-pub fn times(page: usize, book: &[u8]) -> u8 {
+pub fn times(page: usize, history: &[u8]) -> u8 {
     if 1024 <= page {
         return 0;
     }
     let at = FLASH + page;
-    if at < book.len() { book[at] } else { 0 }
+    if at < history.len() { history[at] } else { 0 }
 }
 
 // One more rewriting of a page.
-fn count_page(page: usize, book: &mut [u8]) {
+fn count_page(page: usize, history: &mut [u8]) {
     if 1024 <= page {
         return;
     }
     let at = FLASH + page;
-    if book.len() <= at {
+    if history.len() <= at {
         return;
     }
-    let n = book[at];
+    let n = history[at];
     if n < 255 {
-        book[at] = n + 1;
+        history[at] = n + 1;
     }
 }
 
 // The counts begin anew, and the copy follows the flash.
-pub fn begin(flash: &[u8], book: &mut [u8]) {
-    let all = book.len();
-    script::image::fill(book, all, 0);
-    copy(flash, book);
+pub fn begin(flash: &[u8], history: &mut [u8]) {
+    let all = history.len();
+    script::image::fill(history, all, 0);
+    copy(flash, history);
 }
 
 // A page that may have been rewritten: 1 if it was, else 0.
-fn track_page(loud: bool, offset: usize, page: usize, flash: &[u8], book: &mut [u8]) -> usize {
-    if !page_changed(page_start(offset, page), flash, book) {
+fn track_page(
+    verbose: bool,
+    offset: usize,
+    page: usize,
+    flash: &[u8],
+    history: &mut [u8],
+) -> usize {
+    if !page_changed(page_start(offset, page), flash, history) {
         return 0;
     }
-    count_page(page, book);
-    if loud {
+    count_page(page, history);
+    if verbose {
         told(b"  changed: page ", page, b" erased and rewritten\n");
     }
     1
@@ -88,16 +96,16 @@ fn first_page(next: usize) -> usize {
 }
 
 // Whether a page was rewritten, up to the page of `next`.
-pub fn track(loud: bool, offset: usize, next: usize, flash: &[u8], book: &mut [u8]) -> bool {
+pub fn track(verbose: bool, offset: usize, next: usize, flash: &[u8], history: &mut [u8]) -> bool {
     let mut page = first_page(next);
     let mut n = 0;
     let mut turns = 6usize;
     while 0 < turns {
         turns -= 1;
-        if track_page(loud, offset, page, flash, book) == 1 {
+        if track_page(verbose, offset, page, flash, history) == 1 {
             n = 1;
         }
-        page = more(page);
+        page = increment(page);
     }
     n == 1
 }

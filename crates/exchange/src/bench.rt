@@ -2,12 +2,12 @@
 use profile::Profile;
 use rules::kinds::Address;
 use rules::kinds::Bus;
-use script::words::more;
+use script::words::increment;
 use script::words::say;
 use script::words::told;
 use state::State;
 
-pub struct Desk {
+pub struct Bench {
     pub profile: Profile,
     pub state: State,
     // where the master sends to
@@ -26,7 +26,7 @@ pub struct Desk {
 }
 
 // The board of a script that sets up none.
-pub fn usual(bus: Bus) -> Profile {
+pub fn default_profile(bus: Bus) -> Profile {
     Profile {
         bus,
         longest: 64,
@@ -44,10 +44,10 @@ pub fn usual(bus: Bus) -> Profile {
 // The first address of the default range.
 pub const FIRST: usize = 8;
 
-impl Desk {
+impl Bench {
     pub fn new() -> Self {
-        Desk {
-            profile: usual(Bus::I2c),
+        Bench {
+            profile: default_profile(Bus::I2c),
             state: State::fresh(),
             to: FIRST,
             code: 0,
@@ -121,7 +121,7 @@ impl Desk {
     }
 
     // The next reply is not damaged any more.
-    pub fn quiet(mut self) -> Self {
+    pub fn without_noise(mut self) -> Self {
         self.noise = 0;
         self
     }
@@ -133,7 +133,7 @@ impl Desk {
 
     // One more line.
     pub fn counted(mut self) -> Self {
-        self.lines = more(self.lines);
+        self.lines = increment(self.lines);
         self
     }
 
@@ -146,7 +146,7 @@ impl Desk {
         );
         say(expected);
         say(b"\n");
-        self.wrong = more(self.wrong);
+        self.wrong = increment(self.wrong);
         self
     }
 }

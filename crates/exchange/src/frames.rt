@@ -1,8 +1,8 @@
 // One frame to the board, and what came back: sent, answered, taken apart, and told.
+use crate::bench::Bench;
+use crate::bench::heard_at;
 use crate::library;
 use crate::pages;
-use crate::table::Desk;
-use crate::table::heard_at;
 use board::Answer;
 use numbers::board_number;
 use profile::Profile;
@@ -24,11 +24,11 @@ use wording::reply::take_apart;
 use wording::reply::unheard;
 
 pub struct Turn {
-    pub desk: Desk,
+    pub bench: Bench,
     pub heard: Heard,
 }
 
-fn tell_spoilt(which: usize, old: u8, new: u8) {
+fn tell_damage(which: usize, old: u8, new: u8) {
     told(b"  byte ", which, b" damaged: ");
     byte(old);
     say(b" -> ");
@@ -37,12 +37,12 @@ fn tell_spoilt(which: usize, old: u8, new: u8) {
 }
 
 // All bits turned over.
-fn turned(b: u8) -> u8 {
+fn inverted(b: u8) -> u8 {
     255 - b
 }
 
 // Damages a byte, counted from 1; 0 for none.
-fn spoil(s: &mut [u8], which: usize) {
+fn invert_byte(s: &mut [u8], which: usize) {
     if which < 1 {
         return;
     }
@@ -52,9 +52,9 @@ fn spoil(s: &mut [u8], which: usize) {
     }
     let at = which - 1;
     let old = s[at];
-    let new = turned(old);
+    let new = inverted(old);
     s[at] = new;
-    tell_spoilt(which, old, new);
+    tell_damage(which, old, new);
 }
 
 fn tell_request(address: u8, frame: &[u8]) {
@@ -80,10 +80,10 @@ fn tell_reply(bus: Bus, at: u8, reply: &[u8]) {
 // A reply came to the master; byte `noise` of it is damaged on its way.
 fn arrived(asked: Asked, at: u8, noise: usize, reply: &mut [u8], expected: &[u8]) -> Heard {
     let bus = asked.bus;
-    if asked.loud {
+    if asked.verbose {
         tell_reply(bus, at, reply);
     }
-    spoil(reply, noise);
+    invert_byte(reply, noise);
     take_apart(asked, reply, expected)
 }
 
@@ -123,7 +123,7 @@ pub fn read_back(
 
 // The board's answer: a reply is sent on RS485, and read by the master on I²C.
 fn answered(
-    d: Desk,
+    d: Bench,
     asked: Asked,
     outcome: Outcome,
     verdict: Verdict,
@@ -147,78 +147,85 @@ fn answered(
 
 // What changed since a state.
 fn tell_since(
-    loud: bool,
+    verbose: bool,
     offset: usize,
     before: State,
     after: State,
     flash: &[u8],
-    book: &mut [u8],
+    history: &mut [u8],
 ) {
-    let rewritten = pages::track(loud, offset, after.upload.next, flash, book);
-    if loud {
+    let rewritten = pages::track(verbose, offset, after.upload.next, flash, history);
+    if verbose {
         tell_changes(before, after, rewritten);
     }
 }
 
 // The board has answered: its state follows, and all of it is told.
 fn settle(
-    d: Desk,
+    d: Bench,
     asked: Asked,
     a: Answer,
     verdict: Verdict,
     flash: &[u8],
     out: &mut [u8],
     expected: &[u8],
-    book: &mut [u8],
+    history: &mut [u8],
 ) -> Turn {
     let after = a.state;
     let outcome = a.outcome;
     let now = d.with_state(after);
     let heard = answered(now, asked, outcome, verdict, flash, out, expected);
-    if asked.loud {
+    if asked.verbose {
         warn(d.state, after, asked.code, heard.status);
     }
-    tell_since(asked.loud, d.profile.offset, d.state, after, flash, book);
+    tell_since(
+        asked.verbose,
+        d.profile.offset,
+        d.state,
+        after,
+        flash,
+        history,
+    );
     Turn {
-        desk: now.quiet(),
+        bench: now.without_noise(),
         heard,
     }
 }
 
 // A frame as it arrives at the board.
 fn deliver(
-    d: Desk,
+    d: Bench,
     asked: Asked,
     frame: &[u8],
     expected: &[u8],
     flash: &mut [u8],
-    book: &mut [u8],
+    history: &mut [u8],
 ) -> Turn {
     let v = library::judge(d.profile, d.state, asked.address, frame);
     let mut out = [0u8; 256];
     let a = library::receive(d.profile, d.state, asked.address, frame, flash, &mut out);
-    settle(d, asked, a, v, flash, &mut out, expected, book)
+    settle(d, asked, a, v, flash, &mut out, expected, history)
 }
 
 // A frame, damaged if that is asked, and told.
 pub fn send(
-    d: Desk,
+    d: Bench,
     asked: Asked,
     frame: &mut [u8],
     expected: &[u8],
     flash: &mut [u8],
-    book: &mut [u8],
+    history: &mut [u8],
 ) -> Turn {
-    if asked.loud {
+    if asked.verbose {
         tell_request(asked.address, frame);
     }
-    spoil(frame, d.damage);
+    invert_byte(frame, d.damage);
     deliver(
         d.asking(asked.code, asked.length),
         asked,
         frame,
         expected,
         flash,
-        book,
+        history,
     )
 }

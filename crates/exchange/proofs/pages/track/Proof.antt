@@ -1,15 +1,15 @@
--- `desk::pages::track` is safe and ends. The turns that are left fall. Assumes nothing.
+-- `exchange::pages::track` is safe and ends. The turns that are left fall. Assumes nothing.
 use mathlib.Core.Path.{_≡_}
 use lib.ListN.{length}
 use borrow.Author.Needs.{needs}
-use Rattle.desk.proofs.pages.track.Statement.{statement}
-use Rattle.desk.proofs.pages.track.Tie as tie
+use Rattle.exchange.proofs.pages.track.Statement.{statement}
+use Rattle.exchange.proofs.pages.track.Tie as tie
 
 abbrev Inv-loop : tie.InvT-loop
-Inv-loop loud offset next flash book₀ page₀ n₀ turns₀ book page n turns = length book ≡ length book₀
+Inv-loop verbose offset next flash history₀ page₀ n₀ turns₀ history page n turns = length history ≡ length history₀
 
 abbrev μ-loop : tie.MeasureT-loop
-μ-loop loud offset next flash book₀ page₀ n₀ turns₀ book page n turns = turns
+μ-loop verbose offset next flash history₀ page₀ n₀ turns₀ history page n turns = turns
 
 first-page-requires : tie.Need-first-page-requires Inv-loop μ-loop
 first-page-requires c κs = search needs
@@ -23,8 +23,8 @@ sub-turns c = search needs
 track-page-requires : tie.Need-track-page-requires Inv-loop μ-loop
 track-page-requires c κs = search needs
 
-more-requires : tie.Need-more-requires Inv-loop μ-loop
-more-requires c κs = search needs
+increment-requires : tie.Need-increment-requires Inv-loop μ-loop
+increment-requires c κs = search needs
 
 loop-less : tie.Need-loop-less Inv-loop μ-loop
 loop-less c = search needs
@@ -48,7 +48,7 @@ track-spec =
     loop-holds
     sub-turns
     track-page-requires
-    more-requires
+    increment-requires
     loop-less
     loop-again
     same-length

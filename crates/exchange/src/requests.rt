@@ -1,45 +1,45 @@
 // Requests that the master makes and sends.
-use crate::exchange::Turn;
-use crate::exchange::send;
+use crate::bench::Bench;
+use crate::frames::Turn;
+use crate::frames::send;
 use crate::library::encode;
-use crate::table::Desk;
 use rules::requests::Encoded;
 use rules::requests::Request;
 use wording::meaning;
 use wording::reply::Asked;
 use wording::reply::unheard;
 
-fn unsent(d: Desk) -> Turn {
+fn unsent(d: Bench) -> Turn {
     Turn {
-        desk: d,
+        bench: d,
         heard: unheard(),
     }
 }
 
 // The first n bytes of a frame.
 fn sent(
-    d: Desk,
+    d: Bench,
     asked: Asked,
     frame: &mut [u8],
     n: usize,
     bytes: &[u8],
     flash: &mut [u8],
-    book: &mut [u8],
+    history: &mut [u8],
 ) -> Turn {
     if frame.len() < n {
         return unsent(d);
     }
-    send(d, asked, &mut frame[0..n], bytes, flash, book)
+    send(d, asked, &mut frame[0..n], bytes, flash, history)
 }
 
 // A request that the master makes and sends. The bytes are a write's data, or what a read should give.
 pub fn request(
-    d: Desk,
+    d: Bench,
     r: Request,
     asked: Asked,
     bytes: &[u8],
     flash: &mut [u8],
-    book: &mut [u8],
+    history: &mut [u8],
 ) -> Turn {
     let bus = asked.bus;
     let mut frame = [0u8; 512];
@@ -48,27 +48,27 @@ pub fn request(
         meaning::tell_unmade(e);
         return unsent(d);
     };
-    sent(d, asked, &mut frame, n, bytes, flash, book)
+    sent(d, asked, &mut frame, n, bytes, flash, history)
 }
 
 // A command to where the master sends.
-pub fn command(d: Desk, code: usize, length: usize, loud: bool) -> Asked {
+pub fn command(d: Bench, code: usize, length: usize, verbose: bool) -> Asked {
     Asked {
         bus: d.bus(),
         code,
         length,
         address: (d.to % 256) as u8,
-        loud,
+        verbose,
     }
 }
 
 // A general call.
-pub fn general(d: Desk) -> Asked {
+pub fn general(d: Bench) -> Asked {
     Asked {
         bus: d.bus(),
         code: 0x46,
         length: 0,
         address: 0,
-        loud: true,
+        verbose: true,
     }
 }

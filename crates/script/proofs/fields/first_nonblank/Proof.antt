@@ -1,9 +1,9 @@
--- `script::fields::solid` is safe and ends. The place stays within the slice and moves on. Assumes nothing.
+-- `script::fields::first_nonblank` is safe and ends. The place stays within the slice and moves on. Assumes nothing.
 use Prim.Native.Nat.{_≤_, _-_}
 use lib.ListN.{length}
 use borrow.Author.Needs.{needs}
-use Rattle.script.proofs.fields.solid.Statement.{statement}
-use Rattle.script.proofs.fields.solid.Tie as tie
+use Rattle.script.proofs.fields.first_nonblank.Statement.{statement}
+use Rattle.script.proofs.fields.first_nonblank.Tie as tie
 
 abbrev Inv-loop : tie.InvT-loop
 Inv-loop s i₀ i = i ≤ length s
@@ -32,8 +32,8 @@ loop-again c = search needs
 returns-2 : tie.Need-returns-2 Inv-loop μ-loop
 returns-2 c = search needs
 
-pub solid-spec : {M : Type 1} → statement M
-solid-spec =
+pub first-nonblank-spec : {M : Type 1} → statement M
+first-nonblank-spec =
     tie.close
     (tie.spec
     Inv-loop
