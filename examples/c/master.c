@@ -101,7 +101,7 @@ static void read_back(struct master *master, const uint8_t *image, size_t size)
     printf("  read back %zu bytes: equal to the image\n", size);
 }
 
-static void session(struct board *board, uint32_t bus, const uint8_t *image)
+static void run_master(struct board *board, uint32_t bus, const uint8_t *image)
 {
     struct master master = {.board = board, .bus = bus, .longest = CHILDBUS_FRAME_MIN};
     uint8_t request[CHILDBUS_FRAME_MAX];
@@ -171,8 +171,8 @@ int main(void)
         fail("no memory");
     for (size_t i = 0; i < IMAGE; i++)
         image[i] = (uint8_t)(i * 7 + i / 64);
-    session(board, CHILDBUS_I2C, image);
-    session(board, CHILDBUS_RS485, image);
+    run_master(board, CHILDBUS_I2C, image);
+    run_master(board, CHILDBUS_RS485, image);
     free(image);
     free(board);
     printf("done\n");
