@@ -3,7 +3,7 @@
  * and replies are taken by modbus_receive_confirmation, which tests it. libmodbus takes a status for a Modbus function; up to
  * status 4 the form of the reply is the same. (Status 5 is a longer reply in Modbus, so there the bytes are read as they come.)
  *
- *   master TTY session    every command, an upload with read back, silence, general calls
+ *   master TTY whole_run    every command, an upload with read back, silence, general calls
  *   master TTY written B..  finalizes and compares the first bytes of flash with B.. (hex)
  */
 #include <errno.h>
@@ -113,7 +113,7 @@ static void read_back(const uint8_t *image)
     }
 }
 
-static void session(void)
+static void whole_run(void)
 {
     uint8_t image[IMAGE];
     for (unsigned i = 0; i < IMAGE; i++)
@@ -172,9 +172,9 @@ static void written(char **bytes, int len)
 
 int main(int argc, char **argv)
 {
-    bool whole = argc == 3 && strcmp(argv[2], "session") == 0;
+    bool whole = argc == 3 && strcmp(argv[2], "whole_run") == 0;
     if (!whole && !(argc > 3 && argc < 60 && strcmp(argv[2], "written") == 0)) {
-        fprintf(stderr, "usage: master TTY session | master TTY written BYTE ..\n");
+        fprintf(stderr, "usage: master TTY whole_run | master TTY written BYTE ..\n");
         return 2;
     }
     bus = modbus_new_rtu(argv[1], 9600, 'N', 8, 1);
@@ -182,7 +182,7 @@ int main(int argc, char **argv)
         fail(argv[1], modbus_strerror(errno));
     patience(10, 0);
     if (whole)
-        session();
+        whole_run();
     else
         written(argv + 3, argc - 3);
     modbus_close(bus);

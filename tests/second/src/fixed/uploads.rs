@@ -8,7 +8,7 @@ use rules::model::*;
 pub fn lists(sheet: &mut Sheet) {
     for bus in BUSES {
         reuploads(sheet, bus);
-        session(sheet, bus);
+        whole_upload(sheet, bus);
         interrupted(sheet, bus);
     }
 }
@@ -40,8 +40,8 @@ fn reuploads(sheet: &mut Sheet, bus: Bus) {
     sheet.read_back(640, 200);
 }
 
-/// A whole session as a master runs it.
-fn session(sheet: &mut Sheet, bus: Bus) {
+/// A whole upload as a master runs it.
+fn whole_upload(sheet: &mut Sheet, bus: Bus) {
     title(sheet, "whole_session", bus);
     sheet.board(bus, 100, 320, 64);
     sheet.general(6);
