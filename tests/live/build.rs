@@ -1,4 +1,4 @@
-//! Links the library's archive: CHILDBUS_ARCHIVE, or the one that `rt staticlib childbus` writes.
+//! Links the library's archive: CHILDBUS_ARCHIVE, or the one that scripts/archive makes.
 
 use std::path::PathBuf;
 

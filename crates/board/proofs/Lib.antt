@@ -1,2 +1,1 @@
-pub mod RespondLaws
 pub mod ServeLaws

@@ -12,19 +12,16 @@ use Rattle.rules.specs.declared.kinds.Verdict.{Verdict}
 use Rattle.rules.specs.declared.kinds.Verdict.the-variants.{Reset, Running, ResetAddress, Short, Long, WrongSum, Foreign, OtherGeneral, BadTransfer, BadSum, Command}
 use Rattle.rules.specs.Profile.{Profile}
 use Rattle.rules.specs.State as rules
-use Rattle.rules.specs.Numbers.{number}
 use Rattle.rules.specs.Frames.{shortestRequest, shortestReply, verdict, destination, commandOf, argumentsOf}
 use Rattle.rules.specs.Commands as commands
 use Rattle.rules.specs.Commands.{Response, Says, Silent, Acted, obeyed}
-use Rattle.rules.specs.Board.{Called, replied, judged}
-use Rattle.rules.proofs.CommandLaws as laws
-use Rattle.rules.proofs.VerdictLaws.{Framed, framing-cases, verdict-cases}
-use Rattle.rules.proofs.StateLaws.{Sound}
-use Rattle.state.specs.declared.State.{State}
-use Rattle.queries.specs.declared.Response as queries
-use Rattle.queries.specs.Done.{counted}
-use Rattle.board.specs.declared.Answer.{Answer}
-use Rattle.board.specs.Answered.{Seen, seen, told, Answered, Fits}
+use Rattle.rules.specs.Board.{replied, judged}
+use Rattle.laws.proofs.CommandLaws as laws
+use Rattle.laws.proofs.VerdictLaws.{Framed, framing-cases, verdict-cases}
+use Rattle.laws.proofs.StateLaws.{Sound}
+use Rattle.response.specs.declared.Response as response
+use Rattle.response.specs.Done.{counted}
+use Rattle.answer.specs.Answered.{Fits}
 
 -- a part of a list, cut behind first or before first
 pub take-drop : (k e : ℕ) (l : List ℕ) → k ≤ e → e ≤ length l → take (e - k) (drop k l) ≡ drop k (take e l)
@@ -97,13 +94,8 @@ judged-number p s a f d Command =
     let acted : Acted = obeyed p s (commandOf (p .bus) f) (argumentsOf (p .bus) f) d in
     replied-number (p .bus) (destination (p .bus) a f) (acted .response) (acted .state) (acted .flash)
 
--- a call that is not refused makes no promise about bytes that mean nothing
-pub answered : (s : State) (r : Answer) (d out before : List ℕ) (c : Called) → seen r d out ≡ told c before → c .number ≤ 1 → Answered s r d out before c
-answered s r d out before c e small =
-    record { called = e; untouched = λ two. absurd (let n : number (r .outcome) ≡ c .number = ap (λ (x : Seen). x .number) e in omega arith) }
-
 -- what an obeyed command says fits the buffer that it was served with
-pub fits-served : (p : Profile) (s : rules.State) (code : ℕ) (args d : List ℕ) (n m k : ℕ) → Sound p s n m → length d ≡ n → k ≡ m → (r : queries.Response)
+pub fits-served : (p : Profile) (s : rules.State) (code : ℕ) (args d : List ℕ) (n m k : ℕ) → Sound p s n m → length d ≡ n → k ≡ m → (r : response.Response)
     → r ≡ counted (obeyed p s code args d .response) → Fits (p .bus) k r
 fits-served p s code args d n m k sound flash buffer r e =
     let sane = laws.obeyed-sane p (sound .profile) s (sound .state .upload) d (omega (arith, sound .flash-holds)) code args in

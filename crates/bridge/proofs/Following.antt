@@ -17,7 +17,7 @@ use Rattle.state.specs.declared.State.{State}
 use Rattle.state.specs.View.{view, zeroed, Fresh}
 use Rattle.profile.specs.declared.Profile.{Profile}
 use Rattle.profile.specs.View.{profileOf}
-use Rattle.board.specs.Answered.{Seen}
+use Rattle.answer.specs.Answered.{Seen}
 use Rattle.bridge.specs.Happened.{Happened, Promised, Ran, callWith, callOf, callsOf, stepOf, stepsFrom}
 use Rattle.bridge.specs.Script.{head, frameLength, whole, asked, callsIn, stateAfter, flashAfter, Lent, bufferAfter, Remains, remains, remaining, ruledAll, ledgerAfter, Followed, Left}
 use Rattle.bridge.proofs.Observed.{ruledCall-calls}

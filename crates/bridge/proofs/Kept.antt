@@ -11,7 +11,7 @@ use Rattle.state.specs.declared.State.{State}
 use Rattle.state.specs.View.{view}
 use Rattle.profile.specs.declared.Profile.{Profile}
 use Rattle.profile.specs.View.{profileOf}
-use Rattle.board.specs.Answered.{Seen, seen, told}
+use Rattle.answer.specs.Answered.{Seen, seen, told}
 use Rattle.bridge.specs.Happened.{Asked, Receive, Read, Happened, ruledCall, Promised, Ran}
 use Rattle.bridge.specs.Met.{Refused, Stray, AllKept}
 

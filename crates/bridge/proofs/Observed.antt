@@ -7,14 +7,14 @@ use lib.ListN.{length, take}
 use Rattle.rules.specs.Profile as rules
 use Rattle.rules.specs.State as states
 use Rattle.rules.specs.Board.{Called}
-use Rattle.rules.proofs.LaidLaws.{take-laid}
+use Rattle.laws.proofs.LaidLaws.{take-laid}
 use Rattle.ledger.specs.Ledger.{Ledger}
 use Rattle.ledger.specs.Calls.{Call, Step, Reaction, reaction, calls, ruled, fed, stepped, trace}
 use Rattle.state.specs.declared.State.{State}
 use Rattle.state.specs.View.{view}
 use Rattle.profile.specs.declared.Profile.{Profile}
 use Rattle.profile.specs.View.{profileOf}
-use Rattle.board.specs.Answered.{Seen, told}
+use Rattle.answer.specs.Answered.{Seen, told}
 use Rattle.bridge.specs.Happened.{Asked, Receive, Read, Happened, ruledCall, Promised, Ran, callWith, callOf, callsOf, stepOf, stepsFrom}
 
 -- what is written down of what is seen of a call

@@ -8,7 +8,7 @@ use native.Mathlib.Omega.{arith}
 use lib.ListN.{length, take, drop, getD, length-drop}
 use lib.Seq.{getD-drop, drop-drop}
 use borrow.Author.Tests.{lt-leb}
-use Rattle.rules.proofs.UploadLaws.{by-test}
+use Rattle.laws.proofs.UploadLaws.{by-test}
 use Rattle.ledger.specs.Calls.{Call}
 use Rattle.bridge.specs.Happened.{callWith}
 use Rattle.bridge.specs.Script.{head, askedBy, frameLength, whole, asked, callsOfRecords, callsIn}

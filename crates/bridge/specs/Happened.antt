@@ -1,4 +1,4 @@
--- Calls of the code, `board::receive` and `board::read`, as they happened, and what an outside observer writes down of them.
+-- Calls of the code, `board::receive` and `readout::read`, as they happened, and what an outside observer writes down of them.
 use mathlib.Core.List.{List, [], _∷_}
 use Prim.Native.Nat.{ℕ}
 use lib.ListN.{length, take}
@@ -12,8 +12,8 @@ use Rattle.state.specs.declared.State.{State}
 use Rattle.state.specs.View.{view}
 use Rattle.profile.specs.declared.Profile.{Profile}
 use Rattle.profile.specs.View.{profileOf}
-use Rattle.board.specs.declared.Answer.{Answer}
-use Rattle.board.specs.Answered.{Answered}
+use Rattle.answer.specs.declared.Answer.{Answer}
+use Rattle.answer.specs.Answered.{Answered}
 
 -- a received frame with the I²C address beside it, or an I²C read at an address
 pub data Asked : Type 0 where
@@ -33,7 +33,7 @@ abbrev pub ruledCall : Profile → State → List ℕ → ℕ → Asked → Call
 ruledCall p s d n (Receive a f) = received (profileOf p) (view s) a f d n
 ruledCall p s d n (Read a) = readOut (profileOf p) (view s) a d n
 
--- the call did what the contract of `board::receive` or `board::read` promises, on the state s and the flash d
+-- the call did what the contract of `board::receive` or `readout::read` promises, on the state s and the flash d
 abbrev pub Promised : Profile → State → List ℕ → Happened → Type 0
 Promised p s d h = Answered s (h .answer) (h .flash) (h .after) (h .before) (ruledCall p s d (length (h .before)) (h .asked))
 

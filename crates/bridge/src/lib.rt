@@ -1,5 +1,5 @@
-// The demands of the code itself: what `board::receive` and `board::read` return on a list of calls is what the claims speak of.
-use board::Answer;
+// The demands of the code itself: what `board::receive` and `readout::read` return on a list of calls is what the claims speak of.
+use answer::Answer;
 use profile::Profile;
 use state::State;
 ghost use mathlib.Core.Path.{_≡_};
@@ -9,7 +9,7 @@ ghost use Rattle.bridge.specs.Happened.{Promised};
 ghost use Rattle.bridge.specs.Met.{CodeMeetsDemands};
 ghost use Rattle.bridge.specs.Script.{head, askedBy, frameLength, Left};
 
-// For every list of calls, each of which does what the contract of `board::receive` or `board::read` promises on the state and the flash
+// For every list of calls, each of which does what the contract of `board::receive` or `readout::read` promises on the state and the flash
 // that the last one left, from the fresh board with any flash: demands 1, 2 and 3. It does nothing.
 pub fn code_meets_demands()
     ensures { λ _. ⌜ CodeMeetsDemands ⌝ }
@@ -41,7 +41,7 @@ fn call(
     if kind == 0 {
         board::receive(p, s, address, frame, flash, out)
     } else {
-        board::read(p, s, address, flash, out)
+        readout::read(p, s, address, flash, out)
     }
 }
 

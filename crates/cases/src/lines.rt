@@ -1,8 +1,8 @@
 // One line of a case file, by its letter.
-use crate::boards::call_board;
-use crate::masters::call_master;
-use crate::setup::Setup;
-use crate::setup::set_by;
+use case_boards::call_board;
+use case_masters::call_master;
+use case_setup::setup::Setup;
+use case_setup::setup::set_by;
 use text::read::next_field;
 
 // What is to be said of a line.

@@ -1,8 +1,8 @@
 // Document 01, "Commands": a well-framed command by its code. Unserved, wrong argument length, then the command's own rule.
 use profile::Profile;
-use queries::COMMAND_NOT_SUPPORTED;
-use queries::Done;
-use queries::INVALID_ARGUMENTS;
+use response::COMMAND_NOT_SUPPORTED;
+use response::Done;
+use response::INVALID_ARGUMENTS;
 use state::State;
 ghost use mathlib.Core.Path.{_≡_};
 ghost use mathlib.Core.Bool.{true};
@@ -10,7 +10,7 @@ ghost use lib.ListN.{length};
 ghost use Rattle.rules.specs.Commands.{served, lengthAllowed, performed, obeyed};
 ghost use Rattle.state.specs.View.{view};
 ghost use Rattle.profile.specs.View.{profileOf};
-ghost use Rattle.queries.specs.Done.{seen, done, Serving};
+ghost use Rattle.response.specs.Done.{seen, done, Serving};
 
 // The command's own rule. The last arm is 0x0c, the longest frame.
 fn perform(
@@ -33,11 +33,11 @@ fn perform(
         0x03 => queries::hardware_info(p, s, out, at),
         0x04 => queries::serial(p, s, out, at),
         0x05 => updates::start(s),
-        0x06 => updates::write(p, s, args, flash, out, at),
-        0x07 => updates::finalize(p, s, flash, out, at),
+        0x06 => upload_commands::write(p, s, args, flash, out, at),
+        0x07 => upload_commands::finalize(p, s, flash, out, at),
         0x08 => queries::read(p, s, args, &flash[..], out, at),
         0x09 => queries::revision(p, s, out, at),
-        _ => queries::say_number(s, p.longest, out, at),
+        _ => response::say_number(s, p.longest, out, at),
     }
 }
 
@@ -56,10 +56,10 @@ pub fn obey(
         ⌜ seen r (now (flash .exit)) (now (out .exit)) ≡ done (obeyed (profileOf p) (view s) code (now (args .entry)) (now (flash .entry))) (now (out .entry)) at ⌝ }
 {
     if !arguments::served(code) {
-        return queries::say(s, COMMAND_NOT_SUPPORTED, &[], out, at);
+        return response::say(s, COMMAND_NOT_SUPPORTED, &[], out, at);
     }
     if !arguments::length_allowed(code, args.len()) {
-        return queries::say(s, INVALID_ARGUMENTS, &[], out, at);
+        return response::say(s, INVALID_ARGUMENTS, &[], out, at);
     }
     perform(p, s, code, args, flash, out, at)
 }

@@ -12,8 +12,8 @@ use Rattle.rules.specs.declared.kinds.Bus.{Bus}
 use Rattle.rules.specs.declared.kinds.Bus.the-variants.{I2c, Rs485}
 use Rattle.rules.specs.Bytes.{same}
 use Rattle.rules.specs.CheckSums.{crc, crc8, crc16, sum, sumLength, sumRight}
-use Rattle.rules.proofs.BytesLaws.{same-lengths}
-use Rattle.rules.proofs.CheckSumLaws.{length-sum}
+use Rattle.laws.proofs.BytesLaws.{same-lengths}
+use Rattle.laws.proofs.CheckSumLaws.{length-sum}
 
 pub sumRight-short : (bus : Bus) (frame : List ℕ) → length frame < sumLength bus → sumRight bus frame ≡ false
 unfolding sumRight

@@ -1,4 +1,2 @@
-// What the master reads: a reply, one of two reads of a reply, and the version rule.
+// What the master reads: a reply taken apart.
 pub mod decode;
-pub mod reads;
-pub mod version;

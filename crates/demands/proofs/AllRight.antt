@@ -11,8 +11,8 @@ use Rattle.rules.specs.State.{State, Upload, fresh, wellFormed}
 use Rattle.rules.specs.Frames.{reply, destination, commandOf, argumentsOf}
 use Rattle.rules.specs.Commands.{Acted, Says, told, obeyed, ok, invalidArguments}
 use Rattle.rules.specs.Board.{Called, finishedCall, received, readOut}
-use Rattle.rules.proofs.StateLaws.{inRange-facts, sound-refusal, fresh-wellFormed}
-use Rattle.rules.proofs.BoardLaws.{withLast-upload, received-judged, received-orderly, readOut-orderly, readOut-state}
+use Rattle.laws.proofs.StateLaws.{inRange-facts, sound-refusal, fresh-wellFormed}
+use Rattle.laws.proofs.BoardLaws.{withLast-upload, received-judged, received-orderly, readOut-orderly, readOut-state}
 use Rattle.ledger.specs.Ledger.{Ledger, opened}
 use Rattle.ledger.specs.Calls.{Call, Frame, Read, reaction, ruled, Step, fed, stepped, trace}
 use Rattle.demands.specs.Past.{Past, wellFramed}

@@ -18,8 +18,8 @@ use Rattle.rules.specs.CheckSums.{sumRight}
 use Rattle.rules.specs.Frames.{shortestRequest, destination, commandOf, argumentsOf, numberAt, framing, verdict}
 use Rattle.rules.specs.Commands.{Says, told, accepted, written, readable, shown, performed, obeyed, tabled, ok, invalidArguments}
 use Rattle.rules.specs.Board.{finishedCall, judged}
-use Rattle.rules.proofs.UploadLaws.{by-test}
-use Rattle.rules.proofs.VerdictLaws.{Framed, framing-cases, verdict-cases}
+use Rattle.laws.proofs.UploadLaws.{by-test}
+use Rattle.laws.proofs.VerdictLaws.{Framed, framing-cases, verdict-cases}
 use Rattle.demands.specs.Past.{isCommand, wellFramed}
 use Rattle.demands.proofs.PastLaws.{seen}
 

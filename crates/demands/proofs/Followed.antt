@@ -15,8 +15,8 @@ use Rattle.rules.specs.Frames.{reply, destination, commandOf, argumentsOf, numb
 use Rattle.rules.specs.Commit.{Progress, takenAll, finalized}
 use Rattle.rules.specs.Commands.{Acted, Says, told, withUpload, addressTaken, setAddress, hardwareInfo, serialNumber, started, accepted, begun, written, finished, readable, shown, obeyed, tabled, lengthAllowed, ok, commandNotSupported, invalidArguments}
 use Rattle.rules.specs.Board.{Called, finishedCall}
-use Rattle.rules.proofs.UploadLaws.{by-test, next-takenAll, next-finalized}
-use Rattle.rules.proofs.CommandLaws.{next-begun, obeyed-cases}
+use Rattle.laws.proofs.UploadLaws.{by-test, next-takenAll, next-finalized}
+use Rattle.laws.proofs.CommandLaws.{next-begun, obeyed-cases}
 use Rattle.ledger.specs.Ledger.{writeAddress, writeData}
 use Rattle.ledger.proofs.FrameReading.{write-address, write-data}
 use Rattle.demands.specs.Past.{wellFramed, afterFrame}

@@ -15,9 +15,9 @@ use Rattle.rules.specs.Numbers.{refusal}
 use Rattle.rules.specs.Frames.{resetFrame, resetAddressFrame, isGeneral, framing, verdict}
 use Rattle.rules.specs.Commands.{invalidTransfer, invalidCrc}
 use Rattle.rules.specs.Board.{nothing, judged, received}
-use Rattle.rules.proofs.UploadLaws.{by-test}
-use Rattle.rules.proofs.VerdictLaws.{framing-cases, verdict-cases}
-use Rattle.rules.proofs.BoardLaws.{received-judged, received-refused, refusal-least}
+use Rattle.laws.proofs.UploadLaws.{by-test}
+use Rattle.laws.proofs.VerdictLaws.{framing-cases, verdict-cases}
+use Rattle.laws.proofs.BoardLaws.{received-judged, received-refused, refusal-least}
 use Rattle.demands.specs.Past.{isCommand, wellFramed, afterFrame}
 use Rattle.demands.proofs.PastLaws.{seen, after-silence, after-refusal}
 use Rattle.demands.proofs.Followed.{Follows, refused-followed, obeyed-followed}

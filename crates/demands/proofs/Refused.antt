@@ -16,8 +16,8 @@ use Rattle.rules.specs.Numbers.{refusal}
 use Rattle.rules.specs.Frames.{commandOf, argumentsOf, destination, verdict}
 use Rattle.rules.specs.Commands.{Response, Says, Silent, Acted, obeyed}
 use Rattle.rules.specs.Board.{Called, replied, judged, refused, received, readAnswered, readOut}
-use Rattle.rules.proofs.UploadLaws.{by-test}
-use Rattle.rules.proofs.BoardLaws.{received-judged, received-refused}
+use Rattle.laws.proofs.UploadLaws.{by-test}
+use Rattle.laws.proofs.BoardLaws.{received-judged, received-refused}
 use Rattle.demands.specs.Untouched.{RefusedUntouched}
 
 -- a call that is not refused answers 0 or 1

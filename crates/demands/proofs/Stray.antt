@@ -19,11 +19,11 @@ use Rattle.rules.specs.CheckSums.{sumRight}
 use Rattle.rules.specs.Frames.{reply, destination, hears, resetFrame, isGeneral, verdict}
 use Rattle.rules.specs.Commands.{invalidTransfer, invalidCrc}
 use Rattle.rules.specs.Board.{judged, received}
-use Rattle.rules.proofs.UploadLaws.{by-test}
-use Rattle.rules.proofs.VerdictLaws.{Framed, framing-cases, verdict-cases}
-use Rattle.rules.proofs.BoardLaws.{withLast-upload, received-judged, received-refused}
-use Rattle.rules.proofs.BytesLaws.{same-true}
-use Rattle.rules.proofs.CheckSumLaws.{sumRight-sealed}
+use Rattle.laws.proofs.UploadLaws.{by-test}
+use Rattle.laws.proofs.VerdictLaws.{Framed, framing-cases, verdict-cases}
+use Rattle.laws.proofs.BoardLaws.{withLast-upload, received-judged, received-refused}
+use Rattle.laws.proofs.BytesLaws.{same-true}
+use Rattle.laws.proofs.CheckSumLaws.{sumRight-sealed}
 use Rattle.demands.specs.Untouched.{foreign, summed, damaged, StrayIgnored}
 
 -- it is no reset and no command to this board

@@ -1,12 +1,10 @@
--- Why the encoder may write: a request's length, that its numbers fit their bytes where no argument is wrong, and what its answers promise.
--- Assumes nothing.
-use mathlib.Core.Path.{_≡_, refl, sym, _∙_}
+-- Why the encoder may write: the numbers of a request fit their bytes where no argument is wrong; and what its answers promise.
+use mathlib.Core.Path.{_≡_, refl}
 use mathlib.Core.Bool.{Bool, true, false, not, _&&_, _||_}
-use mathlib.Core.List.{List, [], _∷_, _++_}
+use mathlib.Core.List.{List}
 use Prim.Native.Nat.{ℕ, _+_, _-_, _<_, _≤_}
 use native.Mathlib.Omega.{arith}
 use lib.Dec.{eqb, leb, ltb}
-use lib.ListN.{length}
 use borrow.Author.Tests.{leb-true, ltb-false, not-false}
 use Rattle.rules.specs.declared.kinds.Bus.{Bus}
 use Rattle.rules.specs.declared.kinds.Bus.the-variants.{I2c, Rs485}
@@ -15,41 +13,12 @@ use Rattle.rules.specs.declared.requests.Request.the-variants.{Plain, SetAddres
 use Rattle.rules.specs.declared.requests.Encoded.{Encoded}
 use Rattle.rules.specs.declared.requests.Encoded.the-variants.{Made}
 use Rattle.rules.specs.Profile.{frameInRange}
-use Rattle.rules.specs.CheckSums.{sealed}
-use Rattle.rules.specs.Numbers.{laid}
-use Rattle.rules.specs.Frames.{shortestRequest, shortestReply, twoBytes, request, resetAddressFrame, resetFrame}
+use Rattle.rules.specs.Frames.{shortestRequest, shortestReply}
 use Rattle.rules.specs.Commands.{served, lengthAllowed}
-use Rattle.rules.specs.Master.{Encoding, encodedNumber, encodedLength, requestBytes, addressOver, flashAddressOver, commandWrong, argumentWrong, unmade}
-use Rattle.rules.proofs.CheckSumLaws.{length-sealed}
-use Rattle.rules.proofs.ArgumentLaws.{served-lt}
-use Rattle.encoder.specs.Calls.{Encodes, Makes, Fitting, generalLength, requestLength}
-
--- lengths
-
-length-request : (bus : Bus) (address code : ℕ) (args : List ℕ) → length (request bus address code args) ≡ shortestRequest bus + length args
-unfolding request
-length-request I2c address code args = omega (arith, length-sealed I2c (code ∷ args))
-length-request Rs485 address code args = omega (arith, length-sealed Rs485 (address ∷ code ∷ args))
-
-length-resetAddress : (bus : Bus) → length (resetAddressFrame bus) ≡ generalLength bus
-unfolding resetAddressFrame
-length-resetAddress I2c = refl
-length-resetAddress Rs485 = length-sealed Rs485 (0 ∷ 0x44 ∷ [])
-
-length-reset : (bus : Bus) → length (resetFrame bus) ≡ generalLength bus
-unfolding resetFrame
-length-reset I2c = refl
-length-reset Rs485 = length-sealed Rs485 (0 ∷ 0x46 ∷ [])
-
-pub length-requestBytes : (bus : Bus) (r : Request) (destination : ℕ) (bytes : List ℕ)
-    → length (requestBytes bus r destination bytes) ≡ requestLength bus r (length bytes)
-unfolding requestBytes
-length-requestBytes bus (Plain code) destination bytes = omega (arith, length-request bus destination code [])
-length-requestBytes bus (SetAddress address hardware) destination bytes = length-request bus destination 0x01 (address ∷ hardware ∷ [])
-length-requestBytes bus (Write address) destination bytes = omega (arith, length-request bus destination 0x06 (twoBytes address ++ bytes))
-length-requestBytes bus (Read address asked) destination bytes = length-request bus destination 0x08 (twoBytes address ++ asked ∷ [])
-length-requestBytes bus ResetAddress destination bytes = length-resetAddress bus
-length-requestBytes bus Reset destination bytes = length-reset bus
+use Rattle.rules.specs.Master.{Encoding, encodedNumber, encodedLength, addressOver, flashAddressOver, commandWrong, argumentWrong, unmade}
+use Rattle.laws.proofs.ArgumentLaws.{served-lt}
+use Rattle.request_bytes.specs.Making.{Makes, Fitting}
+use Rattle.encoder.specs.Calls.{Encodes}
 
 -- numbers that fit their bytes
 

@@ -1,3 +1,1 @@
-pub mod WrongLaws
-pub mod WriteLaws
 pub mod EncodeLaws

@@ -1,48 +1,13 @@
 // The request encoder: it looks first and writes then, so that a refusal leaves the output untouched.
-use crate::sizes::request_length;
-use crate::write::write_command;
-use crate::write::write_reset;
-use crate::write::write_reset_address;
-use crate::wrong::argument_wrong;
+use request_bytes::request_length;
+use request_bytes::write_request;
+use request_range::argument_wrong;
 use rules::kinds::Bus;
 use rules::requests::Encoded;
 use rules::requests::Request;
-ghost use mathlib.Core.Path.{_≡_};
-ghost use Prim.Native.Nat.{_≤_};
 ghost use lib.ListN.{length};
-ghost use Rattle.rules.specs.Master.{requestBytes, encoded};
-ghost use Rattle.encoder.specs.Calls.{Encodes, Makes, Fitting, requestLength};
-
-// The bytes of a request whose numbers fit theirs, in an output with room for them.
-fn write_request(
-    bus: Bus,
-    request: Request,
-    destination: usize,
-    bytes: &[u8],
-    out: &mut [u8],
-) -> usize
-    requires { ⌜ Fitting request destination × (requestLength bus request (length (now bytes)) ≤ length (now out)) ⌝ }
-    ensures { λ r. ⌜ Makes (requestBytes bus request destination (now (bytes .entry))) (now (out .entry)) (now (out .exit)) r ⌝ }
-{
-    let none = &bytes[..0];
-    match request {
-        Request::Plain(code) => write_command(bus, destination, code, none, none, out),
-        Request::SetAddress { address, hardware } => {
-            let arguments = [address as u8, hardware as u8];
-            write_command(bus, destination, 0x01, &arguments, none, out)
-        }
-        Request::Write { address } => {
-            let arguments = [(address / 256) as u8, (address % 256) as u8];
-            write_command(bus, destination, 0x06, &arguments, bytes, out)
-        }
-        Request::Read { address, length } => {
-            let arguments = [(address / 256) as u8, (address % 256) as u8, length as u8];
-            write_command(bus, destination, 0x08, &arguments, none, out)
-        }
-        Request::ResetAddress => write_reset_address(bus, out),
-        Request::Reset => write_reset(bus, out),
-    }
-}
+ghost use Rattle.rules.specs.Master.{encoded};
+ghost use Rattle.encoder.specs.Calls.{Encodes};
 
 // Encodes a request to a destination, which a general call has none of. The bytes are a write's data.
 pub fn encode(

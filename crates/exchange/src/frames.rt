@@ -3,7 +3,7 @@ use crate::bench::Bench;
 use crate::bench::heard_at;
 use crate::library;
 use crate::pages;
-use board::Answer;
+use answer::Answer;
 use numbers::board_number;
 use profile::Profile;
 use rules::kinds::Bus;

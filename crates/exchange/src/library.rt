@@ -1,5 +1,5 @@
 // The library's calls, each with no promise of its own: the bench only tells what they answer.
-use board::Answer;
+use answer::Answer;
 use profile::Profile;
 use rules::kinds::Bus;
 use rules::kinds::Verdict;
@@ -19,7 +19,7 @@ pub(crate) fn receive(
 }
 
 pub(crate) fn read(p: Profile, s: State, address: u8, flash: &[u8], out: &mut [u8]) -> Answer {
-    board::read(p, s, address, flash, out)
+    readout::read(p, s, address, flash, out)
 }
 
 pub(crate) fn judge(p: Profile, s: State, address: u8, frame: &[u8]) -> Verdict {

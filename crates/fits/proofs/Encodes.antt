@@ -16,8 +16,8 @@ use Rattle.rules.specs.declared.requests.Request.the-variants.{Plain, Write, Re
 use Rattle.rules.specs.Frames.{shortestRequest, shortestReply, twoBytes, request, answersTo, hears}
 use Rattle.rules.specs.Commands.{tabled, served, lengthAllowed}
 use Rattle.rules.specs.Master.{addressOver, commandWrong, argumentWrong, requestBytes, encoded}
-use Rattle.rules.proofs.StateLaws.{Sound, refusal-sound}
-use Rattle.rules.proofs.FrameLaws.{length-request, hears-address}
+use Rattle.laws.proofs.StateLaws.{Sound, refusal-sound}
+use Rattle.laws.proofs.FrameLaws.{length-request, hears-address}
 use Rattle.fits.specs.Sending.{encoding}
 use Rattle.fits.specs.Talk.{Line, Board, Ready, sending}
 use Rattle.fits.specs.UploadSeen.{dataMost, resultsMost, finalize}

@@ -12,8 +12,8 @@ use Rattle.rules.specs.State.{Upload}
 use Rattle.rules.specs.Frames.{hears, reply}
 use Rattle.rules.specs.Commands.{Says, Acted, withUpload, performed, ok}
 use Rattle.rules.specs.Board.{withLast}
-use Rattle.rules.proofs.StateLaws.{Sound, refusal-sound, sound-refusal}
-use Rattle.rules.proofs.BoardLaws.{Orderly, received-orderly, withLast-upload}
+use Rattle.laws.proofs.StateLaws.{Sound, refusal-sound, sound-refusal}
+use Rattle.laws.proofs.BoardLaws.{Orderly, received-orderly, withLast-upload}
 use Rattle.fits.specs.Sending.{Sending, Asked, Commands, Given, Beside, HeardBy, target, bus, encoding, frame, call, asked}
 use Rattle.fits.specs.Understood.{TakenAs, Understood}
 use Rattle.fits.specs.ReadBack.{Answered, Told, Replied}

@@ -19,11 +19,11 @@ use Rattle.rules.specs.Frames.{shortestReply, reply, hears}
 use Rattle.rules.specs.Commands.{Response, Says, Silent, Acted, addressTaken, setAddress, performed, served}
 use Rattle.rules.specs.Board.{Called, withLast, readAnswered, readOut}
 use Rattle.rules.specs.Master.{resultsMissing, decodedRead, resultsIn, resultBytes, whichRead, addressOver}
-use Rattle.rules.proofs.UploadLaws.{by-test}
-use Rattle.rules.proofs.StateLaws.{Sound, refusal-sound, sound-refusal}
-use Rattle.rules.proofs.CommandLaws.{length-reply}
-use Rattle.rules.proofs.BoardLaws.{Orderly, received-orderly}
-use Rattle.rules.proofs.FrameLaws.{Ends, decoded-reply, results-reply}
+use Rattle.laws.proofs.UploadLaws.{by-test}
+use Rattle.laws.proofs.StateLaws.{Sound, refusal-sound, sound-refusal}
+use Rattle.laws.proofs.CommandLaws.{length-reply}
+use Rattle.laws.proofs.BoardLaws.{Orderly, received-orderly}
+use Rattle.laws.proofs.FrameLaws.{Ends, decoded-reply, results-reply}
 use Rattle.fits.specs.Sending.{Sending, Asked, Commands, AddressReset, BoardReset, Given, HeardBy, bus, frame, call, asked}
 use Rattle.fits.specs.Understood.{TakenAs, Understood}
 use Rattle.fits.specs.ReadBack.{ReadsAs, TwoReads, hearsNext, ReadOut, Told, Replied, RepliesRead}

@@ -23,8 +23,8 @@ use Rattle.rules.specs.Frames.{twoBytes, request, resetAddressFrame, resetFrame
 use Rattle.rules.specs.Commands.{served, lengthAllowed, performed, obeyed}
 use Rattle.rules.specs.Board.{nothing, addressReset, judged}
 use Rattle.rules.specs.Master.{addressOver, flashAddressOver, commandWrong, argumentWrong, requestBytes}
-use Rattle.rules.proofs.BoardLaws.{received-judged}
-use Rattle.rules.proofs.FrameLaws.{argumentsOf-request, commandOf-request, destination-request, verdict-request}
+use Rattle.laws.proofs.BoardLaws.{received-judged}
+use Rattle.laws.proofs.FrameLaws.{argumentsOf-request, commandOf-request, destination-request, verdict-request}
 use Rattle.fits.specs.Sending.{Sending, Asked, Commands, AddressReset, BoardReset, Given, Beside, HeardBy, bus, encoding, frame, call, askedBy, asked, target}
 use Rattle.fits.specs.Understood.{verdictOn, TakenAs, Understood, Carried, RequestsUnderstood}
 use Rattle.fits.proofs.Made.{||-false, encoded-made, Allowed, commandWrong-allowed}

@@ -14,8 +14,8 @@ use Rattle.rules.specs.State.{State}
 use Rattle.rules.specs.Bytes.{overlay}
 use Rattle.rules.specs.Frames.{shortestReply, twoBytes, numberAt}
 use Rattle.rules.specs.Commands.{told, shown, performed, ok}
-use Rattle.rules.proofs.StateLaws.{ProfileFacts, refusal-sound}
-use Rattle.rules.proofs.ImageLaws.{part-overlay}
+use Rattle.laws.proofs.StateLaws.{ProfileFacts, refusal-sound}
+use Rattle.laws.proofs.ImageLaws.{part-overlay}
 use Rattle.fits.specs.Sending.{Sending}
 use Rattle.fits.specs.Talk.{Line, Board, Ready, sending, after, talk, EachOk, joined}
 use Rattle.fits.specs.UploadSeen.{total, EachMost, resultsMost, reads}

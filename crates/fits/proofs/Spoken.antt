@@ -14,8 +14,8 @@ use Rattle.rules.specs.State.{State}
 use Rattle.rules.specs.Frames.{shortestReply, twoBytes, numberAt}
 use Rattle.rules.specs.Commands.{Response, Says, Silent, Acted, told, setAddress, hardwareInfo, serialNumber, accepted, written, finished, readable, shown, obeyed, ok, commandNotSupported, invalidArguments}
 use Rattle.rules.specs.Master.{fixedPart, resultsMissing}
-use Rattle.rules.proofs.UploadLaws.{by-test}
-use Rattle.rules.proofs.CommandLaws.{obeyed-cases}
+use Rattle.laws.proofs.UploadLaws.{by-test}
+use Rattle.laws.proofs.CommandLaws.{obeyed-cases}
 
 -- a command that says a status with results
 pub record Speech (s : State) (code asked : ℕ) (act : Acted) (status : ℕ) (results : List ℕ) : Type 0 where

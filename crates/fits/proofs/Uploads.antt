@@ -13,8 +13,8 @@ use Rattle.rules.specs.State.{Upload}
 use Rattle.rules.specs.Commit.{Progress, takenAll, finalized}
 use Rattle.rules.specs.Frames.{twoBytes}
 use Rattle.rules.specs.Commands.{begun, finished, performed}
-use Rattle.rules.proofs.StateLaws.{refusal-sound}
-use Rattle.rules.proofs.ImageLaws.{begins, finished-flash, getD-overlay-before, getD-overlay-behind}
+use Rattle.laws.proofs.StateLaws.{refusal-sound}
+use Rattle.laws.proofs.ImageLaws.{begins, finished-flash, getD-overlay-before, getD-overlay-behind}
 use Rattle.fits.specs.Talk.{Line, Board, sending, left}
 use Rattle.fits.specs.UploadSeen.{writes, finalize, uploaded, UploadSeen}
 use Rattle.fits.proofs.Exchange.{Exchanged, exchange}

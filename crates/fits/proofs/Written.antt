@@ -16,10 +16,10 @@ use Rattle.rules.specs.State.{State}
 use Rattle.rules.specs.Commit.{Progress, takenAll}
 use Rattle.rules.specs.Frames.{twoBytes, numberAt}
 use Rattle.rules.specs.Commands.{Says, withUpload, begun, written, performed, ok}
-use Rattle.rules.proofs.CommitLaws.{takenAll-append}
-use Rattle.rules.proofs.UploadLaws.{by-test, next-takenAll}
-use Rattle.rules.proofs.StateLaws.{ProfileFacts, refusal-sound}
-use Rattle.rules.proofs.ImageLaws.{begins}
+use Rattle.laws.proofs.CommitLaws.{takenAll-append}
+use Rattle.laws.proofs.UploadLaws.{by-test, next-takenAll}
+use Rattle.laws.proofs.StateLaws.{ProfileFacts, refusal-sound}
+use Rattle.laws.proofs.ImageLaws.{begins}
 use Rattle.fits.specs.Talk.{Line, Board, Ready, Message, sending, after, talk, left, EachOk}
 use Rattle.fits.specs.UploadSeen.{total, EachMost, dataMost, writes}
 use Rattle.fits.proofs.Exchange.{Exchanged, exchange}

@@ -12,7 +12,7 @@ use Rattle.rules.specs.Bytes.{overlay}
 use Rattle.rules.specs.Numbers.{laid}
 use Rattle.rules.specs.CheckSums.{sealed, sumLength}
 use Rattle.rules.specs.Frames.{header, headerLength, shortestReply, reply}
-use Rattle.rules.proofs.CheckSumLaws.{length-sealed}
+use Rattle.laws.proofs.CheckSumLaws.{length-sealed}
 use Rattle.frame.specs.Reply.{resultsAt}
 
 -- what comes before the results

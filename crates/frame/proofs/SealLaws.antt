@@ -10,7 +10,7 @@ use Rattle.rules.specs.declared.kinds.Bus.{Bus}
 use Rattle.rules.specs.declared.kinds.Bus.the-variants.{I2c, Rs485}
 use Rattle.rules.specs.CheckSums.{crc, crc8, crc16, sum, sumLength, sealed}
 use Rattle.rules.specs.Numbers.{laid}
-use Rattle.rules.proofs.CheckSumLaws.{length-sum}
+use Rattle.laws.proofs.CheckSumLaws.{length-sum}
 use Rattle.frame.specs.Seal.{Sealing}
 
 -- for both buses: the check sum set behind the first n bytes

@@ -12,8 +12,8 @@ use lib.Seq.{length-take-le, take-append-le, take-length}
 use borrow.Author.Tests.{ltb-true, ltb-false}
 use Rattle.rules.specs.Bytes.{overlay}
 use Rattle.rules.specs.Profile.{Profile}
-use Rattle.rules.proofs.BytesLaws.{overlay-overlay, length-overlay, overlay-none}
-use Rattle.rules.proofs.CommitLaws.{raise}
+use Rattle.laws.proofs.BytesLaws.{overlay-overlay, length-overlay, overlay-none}
+use Rattle.laws.proofs.CommitLaws.{raise}
 use Rattle.ledger.specs.Ledger.{Ledger, opened, commits, finalizes}
 use Rattle.ledger.proofs.LedgerLaws.{rest, stands, Roomy, rest-room, commits-overlay}
 use Rattle.ledger.proofs.PageLaws.{div-suc-le, div-suc-end}

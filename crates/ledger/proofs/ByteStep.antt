@@ -12,8 +12,8 @@ use lib.Seq.{drop-length, drop-append-le}
 use borrow.Author.Tests.{eqb-true, eqb-false, ltb-false, ltb-true, eq-eqb, ne-eqb}
 use Rattle.rules.specs.Profile.{Profile}
 use Rattle.rules.specs.Commit.{Progress, committed, taken, takenAll, finalized}
-use Rattle.rules.proofs.CommitLaws.{joined}
-use Rattle.rules.proofs.UploadLaws.{suc-mod-inner}
+use Rattle.laws.proofs.CommitLaws.{joined}
+use Rattle.laws.proofs.UploadLaws.{suc-mod-inner}
 use Rattle.ledger.specs.Ledger.{Ledger, commits, joins, joinsAll, finalizes}
 use Rattle.ledger.proofs.LedgerLaws.{rest}
 use Rattle.ledger.proofs.PageLaws.{page-ends, mod-add-sub}

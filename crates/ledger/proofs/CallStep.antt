@@ -16,10 +16,10 @@ use Rattle.rules.specs.Numbers.{refusal, flashShort, bufferShort}
 use Rattle.rules.specs.Frames.{destination, framing, verdict}
 use Rattle.rules.specs.Commands.{invalidTransfer, invalidCrc}
 use Rattle.rules.specs.Board.{nothing, addressReset, judged, received, readOut, readAnswered}
-use Rattle.rules.proofs.BoardLaws.{refusal-least}
-use Rattle.rules.proofs.StateLaws.{Sound, refusal-sound}
-use Rattle.rules.proofs.UploadLaws.{by-test}
-use Rattle.rules.proofs.VerdictLaws.{framing-cases, verdict-cases}
+use Rattle.laws.proofs.BoardLaws.{refusal-least}
+use Rattle.laws.proofs.StateLaws.{Sound, refusal-sound}
+use Rattle.laws.proofs.UploadLaws.{by-test}
+use Rattle.laws.proofs.VerdictLaws.{framing-cases, verdict-cases}
 use Rattle.ledger.specs.Ledger.{Ledger, resetForm}
 use Rattle.ledger.proofs.FrameReading.{reset-form}
 use Rattle.ledger.proofs.Kept.{Keeps, keeps-other, Entered, refused-quiet, nothing-quiet, reset-enters, error-quiet}

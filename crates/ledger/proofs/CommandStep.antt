@@ -13,8 +13,8 @@ use Rattle.rules.specs.State.{State}
 use Rattle.rules.specs.Frames.{twoBytes, numberAt, commandOf, argumentsOf}
 use Rattle.rules.specs.Commands.{Acted, told, obeyed, setAddress, serialNumber, started, shown, lengthAllowed, tabled, addressTaken, hardwareInfo, readable, commandNotSupported, invalidArguments, ok}
 use Rattle.rules.specs.Board.{finishedCall}
-use Rattle.rules.proofs.UploadLaws.{by-test}
-use Rattle.rules.proofs.CommandLaws.{obeyed-cases}
+use Rattle.laws.proofs.UploadLaws.{by-test}
+use Rattle.laws.proofs.CommandLaws.{obeyed-cases}
 use Rattle.ledger.specs.Ledger.{Ledger, resetForm}
 use Rattle.ledger.proofs.Kept.{Keeps, keeps-other, Entered, error-quiet, other-quiet, silent-quiet}
 use Rattle.ledger.proofs.UploadStep.{Heard, heard-keeps, finished-enters, written-enters}

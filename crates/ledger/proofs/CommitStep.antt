@@ -7,7 +7,7 @@ use lib.ListN.{length, length-drop}
 use lib.Seq.{drop-length}
 use Rattle.rules.specs.Profile.{Profile}
 use Rattle.rules.specs.Commit.{Progress, committed}
-use Rattle.rules.proofs.CommitLaws.{Fitting, committed-overlay}
+use Rattle.laws.proofs.CommitLaws.{Fitting, committed-overlay}
 use Rattle.ledger.specs.Ledger.{Ledger, commits}
 use Rattle.ledger.proofs.LedgerLaws.{rest, Roomy, commits-overlay}
 

@@ -11,8 +11,8 @@ use lib.ListN.{length, take, drop, set, length-drop}
 use lib.Seq.{sets, sets-eq}
 use Rattle.rules.specs.Bytes.{same, overlay}
 use Rattle.rules.specs.Profile.{Profile}
-use Rattle.rules.proofs.BytesLaws.{same-overlay}
-use Rattle.rules.proofs.CommitLaws.{raise}
+use Rattle.laws.proofs.BytesLaws.{same-overlay}
+use Rattle.laws.proofs.CommitLaws.{raise}
 use Rattle.ledger.specs.Ledger.{Ledger, lay, unequal, commits}
 
 -- laying

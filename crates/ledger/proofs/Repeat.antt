@@ -10,8 +10,8 @@ use lib.Dec.{eqb, ltb}
 use lib.ListN.{length, take, drop, length-append, length-drop}
 use lib.Seq.{take-at, drop-append-le, drop-drop}
 use Rattle.rules.specs.Profile.{Profile}
-use Rattle.rules.proofs.BytesLaws.{same-self, overlay-same}
-use Rattle.rules.proofs.CommitLaws.{take-drop-take}
+use Rattle.laws.proofs.BytesLaws.{same-self, overlay-same}
+use Rattle.laws.proofs.CommitLaws.{take-drop-take}
 use Rattle.ledger.specs.Ledger.{Ledger, commits, joins, joinsAll, finalizes}
 use Rattle.ledger.proofs.LedgerLaws.{rest, stands, Roomy, rest-room, commits-overlay}
 use Rattle.ledger.proofs.Balance.{more, length-more, filed}

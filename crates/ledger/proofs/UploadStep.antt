@@ -14,8 +14,8 @@ use Rattle.rules.specs.Frames.{reply, twoBytes, numberAt, commandOf, argumentsO
 use Rattle.rules.specs.Commit.{Progress, takenAll, finalized}
 use Rattle.rules.specs.Commands.{Says, withUpload, accepted, begun, written, finished, invalidArguments, ok}
 use Rattle.rules.specs.Board.{withLast, replied, finishedCall}
-use Rattle.rules.proofs.StateLaws.{Sound}
-use Rattle.rules.proofs.UploadLaws.{by-test}
+use Rattle.laws.proofs.StateLaws.{Sound}
+use Rattle.laws.proofs.UploadLaws.{by-test}
 use Rattle.ledger.specs.Ledger.{Ledger, opened, writes, joinsAll, finalizes, entered, writeAddress, writeData}
 use Rattle.ledger.proofs.LedgerLaws.{rest}
 use Rattle.ledger.proofs.Balance.{Balanced, opened-balanced, finalizes-balanced, finalizes-settled}

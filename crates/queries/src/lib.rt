@@ -1,69 +1,22 @@
 // The commands that only tell: version, hardware info, serial, read, revision, longest frame. Results go straight into the lent buffer.
 use profile::Profile;
+use response::COMMAND_NOT_SUPPORTED;
+use response::Done;
+use response::INVALID_ARGUMENTS;
+use response::OK;
+use response::say;
+use response::two_bytes;
 use rules::kinds::Bus;
 use state::State;
 ghost use mathlib.Core.Path.{_≡_};
 ghost use mathlib.Core.List.{List, [], _∷_};
 ghost use Prim.Native.Nat.{ℕ, _+_, _≤_};
 ghost use lib.ListN.{length};
-ghost use Rattle.rules.specs.Frames.{twoBytes, shortestReply};
+ghost use Rattle.rules.specs.Frames.{shortestReply};
 ghost use Rattle.rules.specs.Commands.{told, ok, hardwareInfo, serialNumber, shown};
 ghost use Rattle.state.specs.View.{view};
 ghost use Rattle.profile.specs.View.{profileOf};
-ghost use Rattle.queries.specs.Done.{seen, done, Serving};
-
-// A status with so many results, or nothing to send.
-pub enum Response {
-    Says { status: u8, count: usize },
-    Silent,
-}
-
-pub struct Done {
-    pub response: Response,
-    pub state: State,
-}
-
-// The status codes of a reply.
-pub const OK: u8 = 0;
-
-pub const COMMAND_NOT_SUPPORTED: u8 = 2;
-
-pub const INVALID_TRANSFER: u8 = 3;
-
-pub const INVALID_CRC: u8 = 4;
-
-pub const INVALID_ARGUMENTS: u8 = 5;
-
-// A status and its results; the state stays.
-pub fn say(s: State, status: u8, results: &[u8], out: &mut [u8], at: usize) -> Done
-    requires { ⌜ at + length (now results) ≤ length (now out) ⌝ }
-    ensures { λ r.
-        ⌜ ((d : List ℕ) → seen r d (now (out .exit)) ≡ done (told (view s) d status (now (results .entry))) (now (out .entry)) at) ⌝ }
-{
-    let count = results.len();
-    flash::store(out, at, results);
-    Done {
-        response: Response::Says { status, count },
-        state: s,
-    }
-}
-
-// A number in two bytes, big-endian.
-fn two_bytes(n: usize) -> [u8; 2]
-    requires { ⌜ n ≤ 65535 ⌝ }
-    ensures { λ r. ⌜ r ≡ twoBytes n ⌝ }
-{
-    [(n / 256 % 256) as u8, (n % 256) as u8]
-}
-
-// A status and a number of two bytes.
-pub fn say_number(s: State, n: usize, out: &mut [u8], at: usize) -> Done
-    requires { ⌜ (n ≤ 65535) × (at + 2 ≤ length (now out)) ⌝ }
-    ensures { λ r. ⌜ ((d : List ℕ) → seen r d (now (out .exit)) ≡ done (told (view s) d ok (twoBytes n)) (now (out .entry)) at) ⌝ }
-{
-    let bytes = two_bytes(n);
-    say(s, OK, &bytes, out, at)
-}
+ghost use Rattle.response.specs.Done.{seen, done, Serving};
 
 // 0x00 version: results 2, 2.
 pub fn version(s: State, out: &mut [u8], at: usize) -> Done

@@ -1,12 +1,16 @@
--- Document 01, "Proved examples": one table, one statement over its rows. E1 to E12, and the edges that it names as rows 13 to 19.
-use mathlib.Core.Bool.{Bool, cond}
+-- Document 01, "Proved examples": one table, one statement over its rows. E1 to E12, the edges that it names as rows 13 to 19, a shorter upload
+-- over a longer one as row 20, and the edges of the sizes (numbers 2 and 4) as rows 21 to 29.
+use mathlib.Core.Bool.{Bool, false, cond}
 use mathlib.Core.List.{List, [], _∷_, _++_}
-use Prim.Native.Nat.{ℕ}
-use lib.ListN.{length, drop, replicate}
+use Prim.Native.Nat.{ℕ, _+_}
+use lib.ListN.{length, take, drop, replicate}
+use Rattle.rules.specs.declared.kinds.Bus.{Bus}
 use Rattle.rules.specs.declared.kinds.Bus.the-variants.{I2c, Rs485}
+use Rattle.rules.specs.declared.kinds.Address.the-variants.{DefaultRange}
 use Rattle.rules.specs.Bytes.{same}
 use Rattle.rules.specs.Profile.{Profile}
-use Rattle.rules.specs.State.{fresh}
+use Rattle.rules.specs.State.{State, fresh}
+use Rattle.rules.specs.Numbers.{refusal}
 use Rattle.rules.specs.Frames.{request, reply, resetFrame, resetAddressFrame}
 use Rattle.rules.specs.Board.{Called, nothing, received}
 
@@ -24,20 +28,24 @@ unfoldable pub disagreeing : List Row → List ℕ
 disagreeing [] = []
 disagreeing (r ∷ rs) = cond (same (r .given) (r .stated)) (disagreeing rs) (r .label ∷ disagreeing rs)
 
--- for E10 to E12 and the edges: S = 128, M = 256, on I²C
-abbrev pub exampleBoard : Profile
-exampleBoard = record {
-  bus = I2c;
-  longest = 256;
+-- a board on a bus, with M, S, O, a hardware type and a serial
+abbrev pub built : Bus → ℕ → ℕ → ℕ → ℕ → List ℕ → Profile
+built bus M S O hardware serial = record {
+  bus = bus;
+  longest = M;
   page = 64;
-  size = 128;
-  offset = 0;
-  hardware = 1;
+  size = S;
+  offset = O;
+  hardware = hardware;
   compatible = 1;
   actual = 1;
   version = 1;
-  serial = [];
+  serial = serial;
 }
+
+-- for E10 to E12 and the edges: S = 128, M = 256, on I²C
+abbrev pub exampleBoard : Profile
+exampleBoard = built I2c 256 128 0 1 []
 
 -- a request to an address, after what a call left
 unfoldable pub sentTo : ℕ → Called → ℕ → List ℕ → Called
@@ -69,6 +77,27 @@ uploaded = closed seventy
 -- the flash filled to its end
 unfoldable pub full : Called
 full = filled blank 128 0x11
+
+-- one byte more than that
+unfoldable pub over : Called
+over = filled blank 129 0x11
+
+-- a fresh board built so, with flash and reply buffer long enough: 0, or the number that refuses it
+abbrev pub refusedAs : Profile → ℕ
+refusedAs p = refusal p fresh (p .offset + p .size) (p .longest)
+
+-- a state of the example board with so many bytes accepted, w of them waiting, a count, and a last reply of k bytes
+abbrev pub stateAt : ℕ → ℕ → ℕ → ℕ → State
+stateAt next w count k = record {
+  address = DefaultRange;
+  running = false;
+  upload = record { next = next; waiting = replicate w 0x11; count = count };
+  last = replicate k 0;
+}
+
+-- such a state handed to a board
+abbrev pub givenTo : Profile → State → ℕ
+givenTo p s = refusal p s 128 256
 
 -- the erase count that a call left
 abbrev pub countAfter : Called → ℕ
@@ -106,7 +135,7 @@ rows =
     ∷ row 12 (countAfter (closed (byteAt uploaded 70 0x22)) ∷ []) (3 ∷ [])
     -- edges: write ending at S, and at S + 1
     ∷ row 13 (full .state .upload .next ∷ full .reply) (128 ∷ 0x00 ∷ 0x00 ∷ 0xD7 ∷ [])
-    ∷ row 14 (filled blank 129 0x11 .reply) (0x05 ∷ 0x00 ∷ 0x96 ∷ [])
+    ∷ row 14 (over .state .upload .next ∷ over .reply) (0 ∷ 0x05 ∷ 0x00 ∷ 0x96 ∷ [])
     -- empty write at next = S
     ∷ row 15 (sentTo 8 full 0x06 (0 ∷ 128 ∷ []) .reply) (0x00 ∷ 0x00 ∷ 0xD7 ∷ [])
     -- frame of M bytes, which S is too short for, and of M + 1 bytes
@@ -116,4 +145,26 @@ rows =
     ∷ row 18 (closed uploaded .reply) (0x00 ∷ 0x02 ∷ 0x00 ∷ 0x02 ∷ 0x09 ∷ [])
     -- the default range ends at 15
     ∷ row 19 (sentTo 15 blank 0x07 [] .number ∷ sentTo 16 blank 0x07 [] .number ∷ []) (0 ∷ 1 ∷ [])
+    -- one byte over that upload, finalized: the page's other bytes stay, those before the upload's end too
+    ∷ row 20 (take 70 (closed (filled uploaded 1 0x22) .flash)) (0x22 ∷ replicate 69 0x11)
+    -- number 2: M of 31, 32, 256, 257
+    ∷ row 21 (refusedAs (built I2c 31 128 0 1 []) ∷ refusedAs (built I2c 32 128 0 1 []) ∷ refusedAs (built Rs485 256 128 0 1 [])
+    ∷ refusedAs (built Rs485 257 128 0 1 []) ∷ []) (2 ∷ 0 ∷ 0 ∷ 2 ∷ [])
+    -- S of half a page, a page, 65,472, 65,536; O of half a page, 65,472, 65,536
+    ∷ row 22 (refusedAs (built I2c 256 32 0 1 []) ∷ refusedAs (built I2c 256 64 0 1 []) ∷ refusedAs (built I2c 256 65472 0 1 [])
+    ∷ refusedAs (built I2c 256 65536 0 1 []) ∷ []) (2 ∷ 0 ∷ 0 ∷ 2 ∷ [])
+    ∷ row 23 (refusedAs (built I2c 256 128 32 1 []) ∷ refusedAs (built I2c 256 128 65472 1 []) ∷ refusedAs (built I2c 256 128 65536 1 []) ∷ [])
+    (2 ∷ 0 ∷ 2 ∷ [])
+    -- hardware types 0, 1, 255, 256; a serial of 16 and of 17 bytes
+    ∷ row 24 (refusedAs (built I2c 256 128 0 0 []) ∷ refusedAs (built I2c 256 128 0 1 []) ∷ refusedAs (built I2c 256 128 0 255 [])
+    ∷ refusedAs (built I2c 256 128 0 256 []) ∷ []) (2 ∷ 0 ∷ 0 ∷ 2 ∷ [])
+    ∷ row 25 (refusedAs (built I2c 256 128 0 1 (replicate 16 0)) ∷ refusedAs (built I2c 256 128 0 1 (replicate 17 0)) ∷ []) (0 ∷ 2 ∷ [])
+    -- number 4: next of S and S + 1; w of 63 before a page's end, of 64 at it; a count of next - w and one more
+    ∷ row 26 (givenTo exampleBoard (stateAt 128 0 0 0) ∷ givenTo exampleBoard (stateAt 129 0 0 0) ∷ []) (0 ∷ 4 ∷ [])
+    ∷ row 27 (givenTo exampleBoard (stateAt 127 63 0 0) ∷ givenTo exampleBoard (stateAt 127 64 0 0) ∷ givenTo exampleBoard (stateAt 128 64 0 0) ∷ [])
+    (0 ∷ 4 ∷ 4 ∷ [])
+    ∷ row 28 (givenTo exampleBoard (stateAt 70 6 64 0) ∷ givenTo exampleBoard (stateAt 70 6 65 0) ∷ []) (0 ∷ 4 ∷ [])
+    -- a last reply of M and of M + 1 bytes, and one on RS485
+    ∷ row 29 (givenTo exampleBoard (stateAt 0 0 0 256) ∷ givenTo exampleBoard (stateAt 0 0 0 257) ∷ givenTo (built Rs485 256 128 0 1 []) (stateAt 0 0 0 1) ∷ [])
+    (0 ∷ 4 ∷ 4 ∷ [])
     ∷ []

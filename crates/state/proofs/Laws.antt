@@ -6,7 +6,7 @@ use Prim.Native.Nat.{ℕ, _-_, _%_, _≤_}
 use lib.Dec.{leb}
 use lib.ListN.{length}
 use Rattle.rules.specs.State.{uploadFormed}
-use Rattle.rules.proofs.StateLaws.{length-used, UploadFacts}
+use Rattle.laws.proofs.StateLaws.{length-used, UploadFacts}
 use Rattle.state.specs.declared.Upload.{Upload}
 use Rattle.state.specs.declared.Last.{Last}
 use Rattle.state.specs.View.{uploadOf, lastOf}

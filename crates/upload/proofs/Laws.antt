@@ -12,10 +12,10 @@ use Rattle.rules.specs.Bytes.{overlay}
 use Rattle.rules.specs.Profile as rules
 use Rattle.rules.specs.State.{used}
 use Rattle.rules.specs.Commit.{Progress, committed, takenAll, finalized}
-use Rattle.rules.proofs.BytesLaws.{length-overlay}
-use Rattle.rules.proofs.CommitLaws.{Fitting, raise, joined, committed-overlay, takenAll-below, takenAll-end}
-use Rattle.rules.proofs.StateLaws.{used-take, used-zero, ProfileFacts, UploadFacts, inRange-facts, uploadFormed-facts, facts-uploadFormed}
-use Rattle.rules.proofs.UploadLaws.{Kept, takenAll-kept, finalized-kept, next-takenAll, next-finalized}
+use Rattle.laws.proofs.BytesLaws.{length-overlay}
+use Rattle.laws.proofs.CommitLaws.{Fitting, raise, joined, committed-overlay, takenAll-below, takenAll-end}
+use Rattle.laws.proofs.StateLaws.{used-take, used-zero, ProfileFacts, UploadFacts, inRange-facts, uploadFormed-facts, facts-uploadFormed}
+use Rattle.laws.proofs.UploadLaws.{Kept, takenAll-kept, finalized-kept, next-takenAll, next-finalized}
 use Rattle.state.specs.declared.Upload.{Upload}
 use Rattle.state.specs.View.{page, uploadOf}
 use Rattle.state.proofs.Laws.{HeldFacts, length-waiting, upload-held}

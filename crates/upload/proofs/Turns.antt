@@ -7,9 +7,9 @@ use lib.ListN.{length, take, drop, length-drop}
 use lib.Seq.{take-add, length-take-le}
 use Rattle.rules.specs.Bytes.{overlay}
 use Rattle.rules.specs.Commit.{Progress, committed, takenAll}
-use Rattle.rules.proofs.BytesLaws.{length-overlay}
-use Rattle.rules.proofs.CommitLaws.{joined, takenAll-append}
-use Rattle.rules.proofs.UploadLaws.{sub-mod, next-takenAll}
+use Rattle.laws.proofs.BytesLaws.{length-overlay}
+use Rattle.laws.proofs.CommitLaws.{joined, takenAll-append}
+use Rattle.laws.proofs.UploadLaws.{sub-mod, next-takenAll}
 use Rattle.state.specs.declared.Upload.{Upload}
 use Rattle.state.specs.View.{page}
 use Rattle.state.proofs.Laws.{HeldFacts, upload-held}

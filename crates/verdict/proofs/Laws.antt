@@ -7,7 +7,7 @@ use lib.Dec.{eqb}
 use lib.ListN.{getD}
 use borrow.Author.Tests.{eq-eqb}
 use Rattle.rules.specs.Bytes.{same}
-use Rattle.rules.proofs.BytesLaws.{same-true}
+use Rattle.laws.proofs.BytesLaws.{same-true}
 
 -- on RS485 the form of a general call says its address
 pub same-to-all : (f form : List ℕ) → getD form 0 0 ≡ 0 → same f form ≡ (eqb (getD f 0 0) 0 && same f form)

@@ -1,39 +1,10 @@
 // Document 01, "Frames and check sums": what a received frame is to a board, by name, before the answer has its number.
+use addressing::hears;
 use rules::kinds::Address;
 use rules::kinds::Bus;
 use rules::kinds::Verdict;
 ghost use mathlib.Core.Path.{_≡_};
-ghost use Rattle.rules.specs.Frames.{addressFits, answersTo, hears, framing, isGeneral, resetFrame, resetAddressFrame, verdict};
-
-// I²C addresses have 7 bits.
-fn address_fits(bus: Bus, to: u8) -> bool
-    ensures { λ r. ⌜ r ≡ addressFits bus to ⌝ }
-{
-    match bus {
-        Bus::I2c => to < 128,
-        Bus::Rs485 => true,
-    }
-}
-
-// A board's own address, or its default range 8 to 15.
-fn answers_to(own: Address, to: u8) -> bool
-    ensures { λ r. ⌜ r ≡ answersTo own to ⌝ }
-{
-    match own {
-        Address::DefaultRange => 8 <= to && to <= 15,
-        Address::Own(b) => to == b,
-    }
-}
-
-// A destination is this board. Address 0 is always the general call.
-pub fn hears(bus: Bus, own: Address, to: u8) -> bool
-    ensures { λ r. ⌜ r ≡ hears bus own to ⌝ }
-{
-    if to == 0 {
-        return false;
-    }
-    address_fits(bus, to) && answers_to(own, to)
-}
+ghost use Rattle.rules.specs.Frames.{framing, isGeneral, resetFrame, resetAddressFrame, verdict};
 
 // The second general call: reset.
 fn is_reset(bus: Bus, to: u8, frame: &[u8]) -> bool

@@ -56,7 +56,7 @@ fn tell_known(v: Version) {
 fn tell_version(major: u8, minor: u8) {
     told(b": version ", wide(major), b".");
     number(wide(minor));
-    tell_known(decoder::version::version(major, minor));
+    tell_known(version_rule::version(major, minor));
 }
 
 fn tell_info(s: &[u8]) {

@@ -5,7 +5,7 @@ use Prim.Native.Nat.{ℕ, zero, suc}
 use lib.ListN.{getD}
 use borrow.Author.Needs.{needs}
 use Rattle.rules.specs.Commands.{tabled}
-use Rattle.rules.proofs.ArgumentLaws.{tabled-past}
+use Rattle.laws.proofs.ArgumentLaws.{tabled-past}
 use Rattle.arguments.proofs.row.Statement.{statement}
 use Rattle.arguments.proofs.row.Tie as tie
 

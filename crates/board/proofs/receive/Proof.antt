@@ -1,10 +1,11 @@
 -- `board::receive` meets its contract: refused by the first of 2 to 5 that applies with all untouched, else judged. Assumes nothing.
-use Rattle.board.proofs.ServeLaws.{answered, judged-number}
+use Rattle.board.proofs.ServeLaws.{judged-number}
+use Rattle.answer.proofs.AnsweredLaws.{answered}
 use Rattle.profile.proofs.Laws.{check-passed, check-refused}
 use Rattle.profile.specs.View.{profileOf}
 use Rattle.state.specs.View.{view}
-use Rattle.rules.proofs.BoardLaws.{received-judged, received-refused}
-use Rattle.rules.proofs.StateLaws.{refusal-sound}
+use Rattle.laws.proofs.BoardLaws.{received-judged, received-refused}
+use Rattle.laws.proofs.StateLaws.{refusal-sound}
 use Rattle.rules.specs.Numbers.{refusal}
 use Rattle.rules.specs.Board.{received}
 use borrow.Author.Tests.{eqb-false}

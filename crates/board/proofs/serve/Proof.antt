@@ -1,11 +1,11 @@
 -- `board::serve` meets its contract: the frame is taken apart as the rules do, obeyed and answered. Assumes nothing.
 use Rattle.board.proofs.ServeLaws.{fits-served}
 use Rattle.board.proofs.ServeLaws.{take-drop, fits-counted}
-use Rattle.board.specs.Answered.{Fits, told}
-use Rattle.queries.specs.Done as queries
+use Rattle.answer.specs.Answered.{Fits, told}
+use Rattle.response.specs.Done as buffered
 use Rattle.profile.specs.View.{profileOf}
 use Rattle.state.specs.View.{view}
-use Rattle.rules.proofs.CommandLaws.{obeyed-sane}
+use Rattle.laws.proofs.CommandLaws.{obeyed-sane}
 use Rattle.rules.specs.Board.{finishedCall}
 use Rattle.rules.specs.Commands.{obeyed}
 use Rattle.rules.specs.CheckSums.{sumLength, unsealed}
@@ -59,7 +59,7 @@ respond-requires : tie.Need-respond-requires
 respond-requires c κs =
     let o = c .before .before .before .before .before .before in
     let st = o .before .before .before .before .before .before .before .before .before .before .before in
-    fits-served (profileOf (st .args .p)) (view (st .args .s)) _ _ (st .args .flash .now) _ _ _ (st .pre .0) refl (o .obey .kept .1 .1 .1 .1 .1 .0) _ (ap (λ (x : queries.Seen). x .response) (o .obey .ensures))
+    fits-served (profileOf (st .args .p)) (view (st .args .s)) _ _ (st .args .flash .now) _ _ _ (st .pre .0) refl (o .obey .kept .1 .1 .1 .1 .1 .0) _ (ap (λ (x : buffered.Seen). x .response) (o .obey .ensures))
 
 same-length : tie.Need-same-length
 same-length c = search needs

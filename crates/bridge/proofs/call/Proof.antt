@@ -1,4 +1,4 @@
--- `bridge::call` meets its contract: the contract of `board::receive` for kind 0, else that of `board::read`. Assumes nothing.
+-- `bridge::call` meets its contract: the contract of `board::receive` for kind 0, else that of `readout::read`. Assumes nothing.
 use borrow.Author.Needs.{needs}
 use borrow.Author.Tests.{eq-eqb, ne-eqb}
 use Rattle.bridge.proofs.call.Statement.{statement}

@@ -1,5 +1,5 @@
 -- `commands::obey` meets its contract: its tests are the definition's, in its order. Assumes nothing.
-use Rattle.queries.proofs.Laws.{few-fit}
+use Rattle.response.proofs.Laws.{few-fit}
 use Rattle.rules.specs.Commands.{served, lengthAllowed, obeyed}
 use borrow.Author.Tests.{not-true, not-false}
 use mathlib.Core.Path.{_≡_, refl, sym, ap, _∙_}

@@ -1,7 +1,7 @@
 -- `commands::perform` meets its contract: each arm is the definition's case for that code. Assumes nothing.
 use Rattle.commands.proofs.Laws.{set-address-arguments, write-arguments, read-arguments}
-use Rattle.queries.proofs.Laws.{few-fit}
-use Rattle.rules.proofs.StateLaws.{length-used}
+use Rattle.response.proofs.Laws.{few-fit}
+use Rattle.laws.proofs.StateLaws.{length-used}
 use Rattle.rules.specs.Commands.{performed}
 use borrow.Author.Tests.{ne-eqb}
 use lib.ListN.{length}

@@ -5,7 +5,7 @@ use native.Mathlib.Omega.{arith}
 use borrow.Author.Needs.{needs}
 use lib.Bits.{bitXor}
 use Rattle.rules.specs.CheckSums.{bit, byte, times, crc16}
-use Rattle.rules.proofs.CheckSumLaws.{times-next}
+use Rattle.laws.proofs.CheckSumLaws.{times-next}
 use Rattle.crc.proofs.crc16_byte.Statement.{statement}
 use Rattle.crc.proofs.crc16_byte.Tie as tie
 

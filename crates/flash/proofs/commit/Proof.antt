@@ -8,7 +8,7 @@ use native.Mathlib.Omega.{arith}
 use lib.ListN.{length, take, drop}
 use borrow.Author.Needs.{needs}
 use Rattle.rules.specs.Bytes.{same}
-use Rattle.rules.proofs.BytesLaws.{overlay-same}
+use Rattle.laws.proofs.BytesLaws.{overlay-same}
 use Rattle.flash.proofs.commit.Statement.{statement}
 use Rattle.flash.proofs.commit.Tie as tie
 

@@ -6,7 +6,7 @@ use native.Mathlib.Omega.{arith}
 use lib.ListN.{length, drop}
 use borrow.Author.Needs.{needs}
 use Rattle.rules.specs.Bytes.{same}
-use Rattle.rules.proofs.BytesLaws.{same-lengths, same-here, same-next, same-end}
+use Rattle.laws.proofs.BytesLaws.{same-lengths, same-here, same-next, same-end}
 use Rattle.flash.proofs.matches.Statement.{statement}
 use Rattle.flash.proofs.matches.Tie as tie
 

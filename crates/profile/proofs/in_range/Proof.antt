@@ -4,7 +4,7 @@ use Prim.Native.Nat.{_≤_}
 use borrow.Author.Needs.{needs}
 use borrow.Author.Tests.{le-leb, lt-leb}
 use Rattle.rules.specs.Profile.{inRange}
-use Rattle.rules.proofs.StateLaws.{length-used}
+use Rattle.laws.proofs.StateLaws.{length-used}
 use Rattle.profile.proofs.Laws.{answered-false, answered-true}
 use Rattle.profile.proofs.in_range.Statement.{statement}
 use Rattle.profile.proofs.in_range.Tie as tie

@@ -1,6 +1,6 @@
 -- `queries::serial` meets its contract: the first bytes of the array are the serial in use. Assumes nothing.
 use borrow.Author.Tests.{eq-eqb, ne-eqb}
-use Rattle.rules.proofs.StateLaws.{used-take, length-used}
+use Rattle.laws.proofs.StateLaws.{used-take, length-used}
 use lib.Seq.{length-take-le}
 use lib.ListN.{length, length-take}
 use mathlib.Core.Path.{_≡_, refl, sym, ap, _∙_}

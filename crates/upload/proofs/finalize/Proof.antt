@@ -4,7 +4,7 @@ use mathlib.Core.Path.{_≡_, refl, sym, _∙_}
 use native.Mathlib.Omega.{arith}
 use lib.ListN.{length, length-take}
 use borrow.Author.Needs.{needs}
-use Rattle.rules.proofs.UploadLaws.{sub-mod}
+use Rattle.laws.proofs.UploadLaws.{sub-mod}
 use Rattle.state.specs.View.{page}
 use Rattle.profile.specs.View.{profileOf}
 use Rattle.upload.proofs.Laws.{ready-bounds, fitting, committed-settled, finalized-none, finalized-some, finalized-formed}

@@ -4,7 +4,8 @@ use lib.ListN.{length}
 use borrow.Author.Needs.{needs}
 use borrow.Author.Tests.{lt-ltb, le-ltb, not-false}
 use Rattle.rules.specs.Master.{encoded}
-use Rattle.encoder.proofs.EncodeLaws.{length-requestBytes, longest-least, longest-most, fitting, encodes-unmade, encodes-made}
+use Rattle.request_bytes.proofs.LengthLaws.{length-requestBytes}
+use Rattle.encoder.proofs.EncodeLaws.{longest-least, longest-most, fitting, encodes-unmade, encodes-made}
 use Rattle.encoder.proofs.encode.encode.Statement.{statement}
 use Rattle.encoder.proofs.encode.encode.Tie as tie
 

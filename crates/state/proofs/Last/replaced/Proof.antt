@@ -6,7 +6,7 @@ use native.Mathlib.Numerals.{add-one}
 use lib.ListN.{length, take, getD, length-set}
 use lib.Seq.{take-suc, take-suc-set, take-length}
 use borrow.Author.Needs.{needs}
-use Rattle.rules.proofs.StateLaws.{used-take}
+use Rattle.laws.proofs.StateLaws.{used-take}
 use Rattle.state.specs.View.{largestFrame}
 use Rattle.state.proofs.Last.replaced.Statement.{statement}
 use Rattle.state.proofs.Last.replaced.Tie as tie

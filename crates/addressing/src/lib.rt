@@ -1,0 +1,35 @@
+// Document 01, "Frames and check sums": whether a destination is this board.
+use rules::kinds::Address;
+use rules::kinds::Bus;
+ghost use mathlib.Core.Path.{_≡_};
+ghost use Rattle.rules.specs.Frames.{addressFits, answersTo, hears};
+
+// I²C addresses have 7 bits.
+fn address_fits(bus: Bus, to: u8) -> bool
+    ensures { λ r. ⌜ r ≡ addressFits bus to ⌝ }
+{
+    match bus {
+        Bus::I2c => to < 128,
+        Bus::Rs485 => true,
+    }
+}
+
+// A board's own address, or its default range 8 to 15.
+fn answers_to(own: Address, to: u8) -> bool
+    ensures { λ r. ⌜ r ≡ answersTo own to ⌝ }
+{
+    match own {
+        Address::DefaultRange => 8 <= to && to <= 15,
+        Address::Own(b) => to == b,
+    }
+}
+
+// A destination is this board. Address 0 is always the general call.
+pub fn hears(bus: Bus, own: Address, to: u8) -> bool
+    ensures { λ r. ⌜ r ≡ hears bus own to ⌝ }
+{
+    if to == 0 {
+        return false;
+    }
+    address_fits(bus, to) && answers_to(own, to)
+}

@@ -1,0 +1,2 @@
+pub mod RespondLaws
+pub mod AnsweredLaws

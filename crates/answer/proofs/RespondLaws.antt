@@ -1,0 +1,94 @@
+-- A reply closed around the results of a command is the rules' reply, whatever stood in the buffer before. Assumes nothing.
+use mathlib.Core.Path.{_≡_, refl, sym, ap, _∙_}
+use mathlib.Core.List.{List, [], _∷_, _++_, append-assoc}
+use Prim.Native.Nat.{ℕ, _+_, _-_, _≤_}
+use native.Mathlib.Omega.{arith}
+use lib.ListN.{length, take, drop, length-append, length-take}
+use lib.Seq.{take-append-seam, drop-at, drop-append-add, drop-drop, length-take-le}
+use Rattle.rules.specs.declared.kinds.Bus.{Bus}
+use Rattle.rules.specs.Bytes.{overlay}
+use Rattle.rules.specs.State as rules
+use Rattle.rules.specs.Numbers.{laid}
+use Rattle.rules.specs.Frames.{headerLength, shortestReply, reply}
+use Rattle.rules.specs.Commands as commands
+use Rattle.rules.specs.Commands.{Acted, Says, Silent}
+use Rattle.rules.specs.Board.{finishedCall, withLast, nothing}
+use Rattle.laws.proofs.CommandLaws.{length-reply}
+use Rattle.laws.proofs.LaidLaws.{take-laid}
+use Rattle.state.specs.View.{view}
+use Rattle.response.specs.declared.Response.{Response}
+use Rattle.response.specs.declared.Response.the-variants as response
+use Rattle.response.specs.declared.Done.{Done}
+use Rattle.response.specs.Done as buffered
+use Rattle.frame.specs.Reply.{Closing, resultsAt}
+use Rattle.answer.specs.Answered.{Seen, told}
+
+module _ (o : List ℕ) (at : ℕ) (bytes : List ℕ) (fits : at + length bytes ≤ length o) where
+  -- the bytes laid over a list stand there
+  pub part-overlay : take (length bytes) (drop at (overlay o at bytes)) ≡ bytes
+  unfolding overlay
+  part-overlay =
+      rw (append-assoc (take at o) bytes, drop-at (take at o) (bytes ++ drop (at + length bytes) o) at (length-take-le at o (omega arith)))
+      (take-append-seam bytes (drop (at + length bytes) o))
+
+  -- and the list behind them is as it was
+  pub drop-overlay : (k : ℕ) → at + length bytes ≤ k → drop k (overlay o at bytes) ≡ drop k o
+  unfolding overlay
+  drop-overlay k past =
+      let front : length (take at o ++ bytes) ≡ at + length bytes = simp (length-append, length-take) (omega arith) in
+      let place : k ≡ length (take at o ++ bytes) + (k - (at + length bytes)) = omega (arith, front) in
+      let behind : at + length bytes + (k - (at + length bytes)) ≡ k = omega arith in
+      ap (λ (n : ℕ). drop n (take at o ++ bytes ++ drop (at + length bytes) o)) place
+      ∙ drop-append-add (take at o ++ bytes) (drop (at + length bytes) o) (k - (at + length bytes))
+      ∙ drop-drop (k - (at + length bytes)) (at + length bytes) o
+      ∙ ap (λ (n : ℕ). drop n o) behind
+
+-- the buffer of a closed reply
+closed-laid : (bus : Bus) (to status : ℕ) (results o out1 out2 : List ℕ) → length results + shortestReply bus ≤ length o
+    → out1 ≡ overlay o (headerLength bus + 2) results → out2 ≡ laid (reply bus to status (resultsAt bus (length results) out1)) out1
+    → out2 ≡ laid (reply bus to status results) o
+closed-laid bus to status results o out1 out2 room e f =
+    let there : resultsAt bus (length results) out1 ≡ results = rw e (part-overlay o (headerLength bus + 2) results (omega arith)) in
+    let whole = reply bus to status results in
+    let behind : drop (length whole) out1 ≡ drop (length whole) o =
+    rw e (drop-overlay o (headerLength bus + 2) results (omega arith) (length whole) (omega (arith, length-reply bus to status results))) in
+    f ∙ rw (there, behind)
+
+-- what is left by a response of a status with results
+pub says-told : (bus : Bus) (to status count n : ℕ) (done : Done) (s : rules.State) (d o out1 out2 : List ℕ) (a : Acted)
+    → done .response ≡ response.Says status count → length o ≡ length out1 → buffered.seen done d out1 ≡ buffered.done a o (headerLength bus + 2)
+    → count + shortestReply bus ≤ length out1 → Closing bus to status count out1 out2 n → s ≡ withLast bus (view (done .state)) (take n out2)
+    → _≡_ {A = Seen} (record { number = 0; made = n; state = s; flash = d; out = out2 }) (told (finishedCall bus to a) o)
+says-told bus to status count n done s d o out1 out2 a said long acted room closing kept = go (a .response) refl
+  where
+    go : (r : commands.Response) → a .response ≡ r → _≡_ {A = Seen} (record { number = 0; made = n; state = s; flash = d; out = out2 }) (told (finishedCall bus to a) o)
+    go Silent e =
+        let same : response.Says status count ≡ response.Silent = sym said ∙ ap (λ (x : buffered.Seen). x .response) acted ∙ ap buffered.counted e in
+        absurd (let z : _≡_ {A = ℕ} 0 1 = cc in omega arith)
+    go (Says st results) e =
+        let same : response.Says status count ≡ response.Says st (length results) = sym said ∙ ap (λ (x : buffered.Seen). x .response) acted ∙ ap buffered.counted e in
+        let status-is : status ≡ st = cc in
+        let count-is : count ≡ length results = cc in
+        let whole = reply bus to st results in
+        let out1-is : out1 ≡ overlay o (headerLength bus + 2) results =
+        ap (λ (x : buffered.Seen). x .out) acted ∙ ap (λ (x : commands.Response). buffered.resultsIn x o (headerLength bus + 2)) e in
+        let out2-is : out2 ≡ laid whole o =
+        closed-laid bus to st results o out1 out2 (omega arith) out1-is (rw (status-is, count-is) at (closing .bytes-are)) in
+        let n-is : n ≡ length whole = closing .length-is ∙ omega (arith, length-reply bus to st results) in
+        let kept-is : s ≡ withLast bus (a .state) whole =
+        kept ∙ rw (out2-is, take-laid whole o n (sym n-is), ap (λ (x : buffered.Seen). x .state) acted) in
+        rw (e, n-is, kept-is, out2-is, ap (λ (x : buffered.Seen). x .flash) acted)
+
+-- and by silence
+pub silent-told : (bus : Bus) (to : ℕ) (done : Done) (s : rules.State) (d o out1 : List ℕ) (a : Acted)
+    → done .response ≡ response.Silent → buffered.seen done d out1 ≡ buffered.done a o (headerLength bus + 2) → s ≡ withLast bus (view (done .state)) []
+    → _≡_ {A = Seen} (record { number = 1; made = 0; state = s; flash = d; out = out1 }) (told (finishedCall bus to a) o)
+silent-told bus to done s d o out1 a said acted kept = go (a .response) refl
+  where
+    go : (r : commands.Response) → a .response ≡ r → _≡_ {A = Seen} (record { number = 1; made = 0; state = s; flash = d; out = out1 }) (told (finishedCall bus to a) o)
+    go (Says st results) e =
+        let same : response.Silent ≡ response.Says st (length results) = sym said ∙ ap (λ (x : buffered.Seen). x .response) acted ∙ ap buffered.counted e in
+        absurd (let z : _≡_ {A = ℕ} 0 1 = cc in omega arith)
+    go Silent e =
+        let out-is : out1 ≡ o = ap (λ (x : buffered.Seen). x .out) acted ∙ ap (λ (x : commands.Response). buffered.resultsIn x o (headerLength bus + 2)) e in
+        rw (e, kept, out-is, ap (λ (x : buffered.Seen). x .state) acted, ap (λ (x : buffered.Seen). x .flash) acted)

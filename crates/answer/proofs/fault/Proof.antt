@@ -1,0 +1,31 @@
+-- `answer::fault` meets its contract: a response with no results lays nothing over the buffer. Assumes nothing.
+use Rattle.laws.proofs.CommandLaws.{shortestReply-le}
+use Rattle.state.specs.View.{view}
+use Rattle.laws.proofs.BytesLaws.{overlay-none}
+use Rattle.rules.specs.Commands.{told}
+use Prim.Native.Nat.{_+_}
+use Rattle.rules.specs.Frames.{headerLength}
+use mathlib.Core.List.{[]}
+use native.Mathlib.Omega.{arith}
+use mathlib.Core.Path.{_≡_, refl, sym, ap, _∙_}
+use borrow.Author.Needs.{needs}
+use Rattle.answer.proofs.fault.Statement.{statement}
+use Rattle.answer.proofs.fault.Tie as tie
+
+respond-requires : tie.Need-respond-requires
+respond-requires c κs =
+    let st = c .before .before in
+    (omega (arith, shortestReply-le (st .args .bus)), omega (arith, shortestReply-le (st .args .bus), st .pre))
+
+same-length : tie.Need-same-length
+same-length c = search needs
+
+returns : tie.Need-returns
+returns c =
+    let st = c .before .before .before .before .before in
+    λ d.
+    c .before .before .respond .ensures (told (view (st .args .s)) d (st .args .status) []) d (st .args .out .now) refl
+    (rw (overlay-none (st .args .out .now) (headerLength (st .args .bus) + 2)))
+
+pub fault-spec : {M : Type 1} → statement M
+fault-spec = tie.close (tie.spec respond-requires same-length returns)

@@ -1,0 +1,81 @@
+// What a board call answers: nothing, or what a command said, as a reply in the lent buffer and on I²C in the state as well.
+use frame::reply::close;
+use response::Done;
+use response::Response;
+use rules::kinds::Bus;
+use rules::kinds::Outcome;
+use state::State;
+ghost use mathlib.Core.Path.{_≡_};
+ghost use mathlib.Core.List.{List, []};
+ghost use Prim.Native.Nat.{ℕ, _+_, _≤_};
+ghost use lib.ListN.{length};
+ghost use Rattle.rules.specs.Frames as frames;
+ghost use Rattle.rules.specs.Frames.{headerLength};
+ghost use Rattle.rules.specs.Commands as commands;
+ghost use Rattle.rules.specs.Commands.{Acted};
+ghost use Rattle.rules.specs.Board.{finishedCall, nothing};
+ghost use Rattle.state.specs.View.{view};
+ghost use Rattle.response.specs.Done as buffered;
+ghost use Rattle.answer.specs.Answered.{seen, told, Fits};
+
+pub struct Answer {
+    pub outcome: Outcome,
+    pub state: State,
+}
+
+// Where a frame was sent: I²C the address beside it, RS485 its first byte.
+pub fn destination(bus: Bus, address: u8, frame: &[u8]) -> u8
+    ensures { λ r. ⌜ r ≡ frames.destination bus address (now (frame .entry)) ⌝ }
+{
+    match bus {
+        Bus::I2c => address,
+        Bus::Rs485 => if frame.len() == 0 { 0 } else { frame[0] },
+    }
+}
+
+// Nothing to send.
+pub fn quiet(s: State) -> Answer
+    ensures { λ r. ⌜ ((d : List ℕ) (o : List ℕ) → seen r d o ≡ told (nothing (view s) d) o) ⌝ }
+{
+    Answer {
+        outcome: Outcome::Nothing,
+        state: s,
+    }
+}
+
+// What a command said, told to its sender: the reply in the lent buffer, and on I²C in the state as well.
+pub fn respond(bus: Bus, to: u8, done: Done, out: &mut [u8]) -> Answer
+    requires { ⌜ Fits bus (length (now out)) (done .response) ⌝ }
+    ensures { λ r.
+        ⌜ ((a : Acted) (d : List ℕ) (o : List ℕ)
+        → length o ≡ length (now (out .entry)) → buffered.seen done d (now (out .entry)) ≡ buffered.done a o (headerLength bus + 2)
+        → seen r d (now (out .exit)) ≡ told (finishedCall bus to a) o) ⌝ }
+{
+    let response = done.response;
+    let state = done.state;
+    match response {
+        Response::Says { status, count } => {
+            let n = close(bus, to, status, count, out);
+            Answer {
+                outcome: Outcome::Reply(n),
+                state: state.with_reply(bus, &out[..n]),
+            }
+        }
+        Response::Silent => Answer {
+            outcome: Outcome::Nothing,
+            state: state.without_reply(),
+        },
+    }
+}
+
+// A status with no results; the state stays.
+pub fn fault(bus: Bus, to: u8, s: State, status: u8, out: &mut [u8]) -> Answer
+    requires { ⌜ 32 ≤ length (now out) ⌝ }
+    ensures { λ r. ⌜ ((d : List ℕ) → seen r d (now (out .exit)) ≡ told (finishedCall bus to (commands.told (view s) d status [])) (now (out .entry))) ⌝ }
+{
+    let done = Done {
+        response: Response::Says { status, count: 0 },
+        state: s,
+    };
+    respond(bus, to, done, out)
+}

@@ -1,0 +1,85 @@
+-- What the state buffer says after a call. Why: a call that is not refused leaves a well-formed state, whose numbers fit their bytes. Assumes nothing.
+use mathlib.Core.Path.{_≡_, refl, sym, ap, _∙_}
+use mathlib.Core.Bool.{true, false, false≢true}
+use mathlib.Core.List.{List}
+use Prim.Native.Nat.{ℕ, _%_, _≤_, _<_}
+use native.Mathlib.Omega.{arith}
+use native.Mathlib.Nat.{mod-lt}
+use lib.Dec.{eqb, leb}
+use lib.ListN.{length}
+use borrow.Author.Tests.{eqb-true, leb-true, le-leb, lt-ltb, le-ltb}
+use Rattle.rules.specs.Profile as paper
+use Rattle.rules.specs.Profile.{inRange}
+use Rattle.rules.specs.State as rules
+use Rattle.rules.specs.State.{used, wellFormed}
+use Rattle.rules.specs.Numbers.{refusal}
+use Rattle.rules.specs.Board.{Called, received}
+use Rattle.laws.proofs.StateLaws.{Sound, length-used, inRange-facts, wellFormed-facts, refusal-sound}
+use Rattle.laws.proofs.UploadLaws.{by-test}
+use Rattle.laws.proofs.BoardLaws.{received-orderly, received-refused, refusal-least}
+use Rattle.state.specs.View.{page, largestFrame, view, zeroed}
+use Rattle.profile.specs.View.{profileOf}
+use Rattle.profile_bytes.specs.ProfileBytes.{profileAt}
+use Rattle.state_bytes.specs.StateBytes.{stateSize, stateHeld, stateAt, stateWritten}
+use Rattle.state_bytes.specs.BothWays.{StateFits}
+use Rattle.fields.proofs.Laws.{&&-true}
+use Rattle.state_bytes.proofs.Laws.{state-fits, state-read, state-malformed}
+use Rattle.childbus_board.specs.BoardBytes.{settled, freshLeft, callOf, receivedLeft}
+use Rattle.childbus_board.proofs.SettleLaws.{view-settled}
+
+-- a well-formed state, settled, written and read again
+module _ (p : paper.Profile) (s : rules.State) (range : inRange p ≡ true) (formed : wellFormed p s ≡ true) where
+  settled-says : view (settled s) ≡ s
+  settled-says =
+      let sizes = inRange-facts p range in
+      let facts = wellFormed-facts p s formed in
+      let below : s .upload .next % p .page < p .page = mod-lt (s .upload .next) (omega arith) in
+      view-settled s (omega arith) (omega arith)
+
+  pub written-says : (b : List ℕ) → stateSize ≤ length b → view (stateAt (stateWritten (settled s) b)) ≡ s
+  written-says b long =
+      let fits = state-fits p (settled s) (length-used page (s .upload .waiting)) (length-used largestFrame (s .last)) range (rw settled-says formed) in
+      ap view (state-read (settled s) b fits long) ∙ settled-says
+
+-- childbus_fresh
+
+zeroed-fits : StateFits zeroed
+zeroed-fits = record { next = omega arith; held = omega arith; count = omega arith; len = omega arith; waiting = refl; bytes = refl }
+
+pub fresh-says : (state : List ℕ) → stateSize ≤ length state → view (stateAt (freshLeft state .state)) ≡ rules.fresh
+unfolding freshLeft used
+fresh-says state long = rw (le-leb stateSize (length state) long, state-read zeroed state zeroed-fits long)
+
+-- childbus_receive
+
+module _ (p : paper.Profile) (s : rules.State) (a : ℕ) (f d : List ℕ) (n : ℕ) where
+  -- a number below 2 is no refusal
+  kept-sound : received p s a f d n .number < 2 → Sound p s (length d) n
+  kept-sound h =
+      by-test (eqb (refusal p s (length d) n) 0)
+      (λ e. refusal-sound p s (length d) n (eqb-true _ _ e))
+      (λ e.
+      let least : 2 ≤ refusal p s (length d) n = refusal-least p s (length d) n e in
+      let told : received p s a f d n .number ≡ refusal p s (length d) n = ap (λ (c : Called). c .number) (received-refused p s d a f n (λ q. omega arith)) in
+      absurd (omega arith))
+
+-- bytes that say a well-formed state are long enough for one
+held-long : (p : paper.Profile) (state : List ℕ) → wellFormed p (view (stateAt state)) ≡ true → stateSize ≤ length state
+held-long p state formed =
+    by-test (stateHeld state)
+    (λ e. leb-true _ _ (&&-true (leb stateSize (length state)) _ e .0))
+    (λ e. absurd (false≢true (sym (state-malformed p state e) ∙ formed)))
+
+module _ (profile state : List ℕ) (address : ℕ) (frame flash out : List ℕ) where
+  pub kept-says : receivedLeft profile state address frame flash out .number < 2
+      → view (stateAt (receivedLeft profile state address frame flash out .state)) ≡ callOf profile state address frame flash out .state
+  unfolding receivedLeft
+  kept-says h =
+      let sound = kept-sound (profileOf (profileAt profile)) (view (stateAt state)) address frame flash (length out) h in
+      let formed = received-orderly (profileOf (profileAt profile)) (view (stateAt state)) flash address frame (length out) (sound .well-formed) .well-formed in
+      let long = held-long (profileOf (profileAt profile)) state (sound .well-formed) in
+      rw (lt-ltb (callOf profile state address frame flash out .number) 2 h) (written-says (profileOf (profileAt profile)) _ (sound .in-range) formed state long)
+
+  pub refused-says : 2 ≤ receivedLeft profile state address frame flash out .number → receivedLeft profile state address frame flash out .state ≡ state
+  unfolding receivedLeft
+  refused-says h = rw (le-ltb (callOf profile state address frame flash out .number) 2 h)

@@ -1,0 +1,2 @@
+-- Laws of the C boundary, for the master.
+pub mod MasterLaws

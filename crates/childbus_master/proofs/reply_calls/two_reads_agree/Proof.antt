@@ -1,0 +1,10 @@
+-- The part that `childbus_two_reads` names is the result bytes of the rules, by `chosen-results`. Assumes nothing.
+use Rattle.childbus_master.proofs.MasterLaws.{chosen-results}
+use Rattle.childbus_master.proofs.reply_calls.two_reads_agree.Statement.{statement}
+use Rattle.childbus_master.proofs.reply_calls.two_reads_agree.Tie as tie
+
+returns : tie.Need-returns
+returns c = record { results = chosen-results }
+
+pub two-reads-agree-spec : {M : Type 1} → statement M
+two-reads-agree-spec = tie.close (tie.spec returns)

@@ -1,0 +1,2 @@
+-- Laws of byte layouts, for the crates above.
+pub mod Laws

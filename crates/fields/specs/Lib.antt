@@ -1,0 +1,2 @@
+-- The parts of a byte layout.
+pub mod Fields

@@ -1,0 +1,87 @@
+-- Laws of the verdict on a frame: each case with what is known there, so that a claim over all frames is proved case by case. Assumes nothing.
+use mathlib.Core.Path.{_≡_, refl}
+use mathlib.Core.Bool.{Bool, true, false, _||_}
+use mathlib.Core.List.{List}
+use Prim.Native.Nat.{ℕ, _≤_}
+use lib.Dec.{eqb, ltb}
+use lib.ListN.{length, getD}
+use borrow.Author.Tests.{ltb-false}
+use Rattle.rules.specs.declared.kinds.Bus.{Bus}
+use Rattle.rules.specs.declared.kinds.Bus.the-variants.{I2c, Rs485}
+use Rattle.rules.specs.declared.kinds.Address.{Address}
+use Rattle.rules.specs.declared.kinds.Verdict.{Verdict}
+use Rattle.rules.specs.declared.kinds.Verdict.the-variants.{Reset, Running, ResetAddress, Short, Long, WrongSum, Foreign, OtherGeneral, BadTransfer, BadSum, Command}
+use Rattle.rules.specs.CheckSums.{sumRight}
+use Rattle.rules.specs.Frames.{shortestRequest, resetFrame, resetAddressFrame, destination, hears, framing, isGeneral, verdict}
+use Rattle.laws.proofs.UploadLaws.{by-test}
+
+-- a well-framed command to this board
+pub record Framed (bus : Bus) (M : ℕ) (own : Address) (a : ℕ) (f : List ℕ) : Type 0 where
+  pub addressed : eqb (destination bus a f) 0 ≡ false
+  pub heard : hears bus own (destination bus a f) ≡ true
+  pub length-least : shortestRequest bus ≤ length f
+  pub length-most : length f ≤ M
+  pub sum-right : sumRight bus f ≡ true
+
+-- a claim on the verdicts of `framing`
+pub record Framings (bus : Bus) (M : ℕ) (own : Address) (a : ℕ) (f : List ℕ) (P : Verdict → Type 0) : Type 0 where
+  pub short : bus ≡ Rs485 → P Short
+  pub long : bus ≡ Rs485 → P Long
+  pub wrong-sum : bus ≡ Rs485 → P WrongSum
+  pub foreign : P Foreign
+  pub other-general : P OtherGeneral
+  pub bad-transfer : bus ≡ I2c → P BadTransfer
+  pub bad-sum : bus ≡ I2c → P BadSum
+  pub command : Framed bus M own a f → P Command
+
+||-false : (a b : Bool) → (a || b) ≡ false → (a ≡ false) × (b ≡ false)
+||-false true b e = (e, cc)
+||-false false b e = (refl, e)
+
+pub framing-cases : (bus : Bus) (M : ℕ) (own : Address) (a : ℕ) (f : List ℕ) (P : Verdict → Type 0) → Framings bus M own a f P → P (framing bus M own a f)
+unfolding framing
+framing-cases I2c M own a f P c =
+    by-test (eqb a 0) (λ e. rw e (c .other-general))
+    (λ addressed. rw addressed
+    (by-test (hears I2c own a)
+    (λ heard. rw heard
+    (by-test (ltb (length f) (shortestRequest I2c) || ltb M (length f)) (λ e. rw e (c .bad-transfer refl))
+    (λ sized. rw sized
+    (by-test (sumRight I2c f)
+    (λ sum. rw sum
+    (let size = ||-false (ltb (length f) (shortestRequest I2c)) (ltb M (length f)) sized in
+    c .command (record { addressed = addressed; heard = heard; length-least = ltb-false _ _ (size .0); length-most = ltb-false _ _ (size .1); sum-right = sum })))
+    (λ e. rw e (c .bad-sum refl))))))
+    (λ e. rw e (c .foreign))))
+framing-cases Rs485 M own a f P c =
+    by-test (ltb (length f) (shortestRequest Rs485)) (λ e. rw e (c .short refl))
+    (λ least. rw least
+    (by-test (ltb M (length f)) (λ e. rw e (c .long refl))
+    (λ most. rw most
+    (by-test (sumRight Rs485 f)
+    (λ sum. rw sum
+    (by-test (eqb (getD f 0 0) 0) (λ e. rw e (c .other-general))
+    (λ addressed. rw addressed
+    (by-test (hears Rs485 own (getD f 0 0))
+    (λ heard. rw heard
+    (c .command (record { addressed = addressed; heard = heard; length-least = ltb-false _ _ least; length-most = ltb-false _ _ most; sum-right = sum })))
+    (λ e. rw e (c .foreign))))))
+    (λ e. rw e (c .wrong-sum refl))))))
+
+-- a claim on the verdicts
+pub record Verdicts (bus : Bus) (M : ℕ) (running : Bool) (own : Address) (a : ℕ) (f : List ℕ) (P : Verdict → Type 0) : Type 0 where
+  pub reset : isGeneral bus a f (resetFrame bus) ≡ true → P Reset
+  pub run : isGeneral bus a f (resetFrame bus) ≡ false → running ≡ true → P Running
+  pub reset-address : isGeneral bus a f (resetFrame bus) ≡ false → running ≡ false → isGeneral bus a f (resetAddressFrame bus) ≡ true → P ResetAddress
+  pub framed : isGeneral bus a f (resetFrame bus) ≡ false → running ≡ false → isGeneral bus a f (resetAddressFrame bus) ≡ false → P (framing bus M own a f)
+
+pub verdict-cases : (bus : Bus) (M : ℕ) (running : Bool) (own : Address) (a : ℕ) (f : List ℕ) (P : Verdict → Type 0)
+    → Verdicts bus M running own a f P → P (verdict bus M running own a f)
+unfolding verdict
+verdict-cases bus M running own a f P c =
+    by-test (isGeneral bus a f (resetFrame bus)) (λ e. rw e (c .reset e))
+    (λ other. rw other
+    (by-test running (λ e. rw e (c .run other e))
+    (λ stopped. rw stopped
+    (by-test (isGeneral bus a f (resetAddressFrame bus)) (λ e. rw e (c .reset-address other stopped e))
+    (λ e. rw e (c .framed other stopped e))))))

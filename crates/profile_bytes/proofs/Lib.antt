@@ -1,0 +1,2 @@
+-- Laws of the profile in bytes.
+pub mod Laws

@@ -1,0 +1,26 @@
+-- `readout::i2c_read_answered` meets its contract, by its tests. Assumes nothing.
+use Rattle.laws.proofs.StateLaws.{length-used}
+use borrow.Author.Tests.{eq-eqb, ne-eqb, not-true, not-false}
+use native.Mathlib.Omega.{arith}
+use mathlib.Core.Path.{_≡_, refl, sym, ap, _∙_}
+use borrow.Author.Needs.{needs}
+use Rattle.readout.proofs.i2c_read_answered.Statement.{statement}
+use Rattle.readout.proofs.i2c_read_answered.Tie as tie
+
+returns : tie.Need-returns
+returns c = search needs
+
+hears-requires : tie.Need-hears-requires
+hears-requires c κs = search needs
+
+returns-2 : tie.Need-returns-2
+returns-2 c = rw (c .before .before .if1 .left, ← c .before .hears .ensures, not-true (c .before .hears .result) (c .if2 .taken))
+
+returns-3 : tie.Need-returns-3
+returns-3 c =
+    let e = c .before in
+    let s = c .before .before .before .before .args .s in
+    rw (e .before .before .if1 .left, ← e .before .hears .ensures, not-false (e .before .hears .result) (e .if2 .left), length-used (s .last .len) (s .last .bytes))
+
+pub i2c-read-answered-spec : {M : Type 1} → statement M
+i2c-read-answered-spec = tie.close (tie.spec returns hears-requires returns-2 returns-3)

@@ -1,0 +1,74 @@
+// A request's bytes, written into a lent output that has room for them.
+use rules::kinds::Bus;
+ghost use mathlib.Core.Path.{_≡_};
+ghost use mathlib.Core.List.{[], _∷_, _++_};
+ghost use Prim.Native.Nat.{_+_, _<_, _≤_};
+ghost use lib.ListN.{length, take};
+ghost use Rattle.rules.specs.Frames.{header, headerLength, shortestRequest, request, resetAddressFrame, resetFrame};
+ghost use Rattle.request_bytes.specs.Making.{Makes, generalLength};
+
+// What stands before the arguments: (RS485: the address,) the command.
+fn write_front(bus: Bus, destination: usize, code: usize, out: &mut [u8]) -> usize
+    requires { ⌜ (destination < 256) × (code < 256) × (headerLength bus + 1 ≤ length (now out)) ⌝ }
+    ensures { λ r. ⌜ Makes (header bus destination ++ code ∷ []) (now (out .entry)) (now (out .exit)) r ⌝ }
+{
+    match bus {
+        Bus::I2c => {
+            out[0] = code as u8;
+            1
+        }
+        Bus::Rs485 => {
+            out[0] = destination as u8;
+            out[1] = code as u8;
+            2
+        }
+    }
+}
+
+// More bytes behind the first n.
+fn append(out: &mut [u8], n: usize, more: &[u8]) -> usize
+    requires { ⌜ n + length (now more) ≤ length (now out) ⌝ }
+    ensures { λ r. ⌜ Makes (take n (now (out .entry)) ++ now (more .entry)) (now (out .entry)) (now (out .exit)) r ⌝ }
+{
+    n + bytes::copy(more, &mut out[n..])
+}
+
+// A command with its arguments, which are lent in two parts.
+pub(crate) fn write_command(
+    bus: Bus,
+    destination: usize,
+    code: usize,
+    first: &[u8],
+    second: &[u8],
+    out: &mut [u8],
+) -> usize
+    requires { ⌜ (destination < 256) × (code < 256) × (shortestRequest bus + length (now first) + length (now second) ≤ length (now out)) ⌝ }
+    ensures { λ r. ⌜ Makes (request bus destination code (now (first .entry) ++ now (second .entry))) (now (out .entry)) (now (out .exit)) r ⌝ }
+{
+    let front = write_front(bus, destination, code, out);
+    let more = append(out, front, first);
+    let all = append(out, more, second);
+    frame::seal::seal(bus, out, all)
+}
+
+// The first general call: default range again.
+pub(crate) fn write_reset_address(bus: Bus, out: &mut [u8]) -> usize
+    requires { ⌜ generalLength bus ≤ length (now out) ⌝ }
+    ensures { λ r. ⌜ Makes (resetAddressFrame bus) (now (out .entry)) (now (out .exit)) r ⌝ }
+{
+    match bus {
+        Bus::I2c => bytes::copy(&[0x04], out),
+        Bus::Rs485 => bytes::copy(&[0x00, 0x44, 0x01, 0x83], out),
+    }
+}
+
+// The second: reset.
+pub(crate) fn write_reset(bus: Bus, out: &mut [u8]) -> usize
+    requires { ⌜ generalLength bus ≤ length (now out) ⌝ }
+    ensures { λ r. ⌜ Makes (resetFrame bus) (now (out .entry)) (now (out .exit)) r ⌝ }
+{
+    match bus {
+        Bus::I2c => bytes::copy(&[0x06], out),
+        Bus::Rs485 => bytes::copy(&[0x00, 0x46, 0x80, 0x42], out),
+    }
+}

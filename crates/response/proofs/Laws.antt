@@ -1,0 +1,17 @@
+-- Room for results in the lent buffer. Assumes nothing.
+use Prim.Native.Nat.{ℕ, _+_, _≤_}
+use native.Mathlib.Omega.{arith}
+use Rattle.rules.specs.Frames.{shortestReply}
+use Rattle.laws.proofs.CommandLaws.{shortestReply-le}
+use Rattle.state.specs.declared.State.{State}
+use Rattle.profile.specs.declared.Profile.{Profile}
+use Rattle.response.specs.Done.{Serving}
+
+-- results that a reply holds fit the buffer
+pub results-fit : (p : Profile) (s : State) (n m at k : ℕ) → Serving p s n m at → k + shortestReply (p .bus) ≤ p .longest → at + k ≤ m
+results-fit p s n m at k serving held = omega (arith, serving .at-is, serving .sound .buffer-holds)
+
+-- and so do a few of them in any case
+pub few-fit : (p : Profile) (s : State) (n m at k : ℕ) → Serving p s n m at → k ≤ 27 → at + k ≤ m
+few-fit p s n m at k serving few =
+    results-fit p s n m at k serving (omega (arith, shortestReply-le (p .bus), serving .sound .profile .longest-least))

@@ -1,0 +1,46 @@
+-- What a command function leaves: its response, the state, the flash, and the results in the lent buffer from a place on.
+use mathlib.Core.List.{List}
+use Prim.Native.Nat.{ℕ, _+_, _≤_}
+use mathlib.Core.Path.{_≡_}
+use lib.ListN.{length}
+use Rattle.rules.specs.Bytes.{overlay}
+use Rattle.rules.specs.State as rules
+use Rattle.rules.specs.Commands as commands
+use Rattle.rules.specs.Commands.{Acted, Says, Silent}
+use Rattle.rules.specs.Frames.{headerLength}
+use Rattle.laws.proofs.StateLaws as laws
+use Rattle.state.specs.declared.State.{State}
+use Rattle.state.specs.View.{view}
+use Rattle.profile.specs.declared.Profile.{Profile}
+use Rattle.profile.specs.View.{profileOf}
+use Rattle.response.specs.declared.Response.{Response}
+use Rattle.response.specs.declared.Response.the-variants as response
+use Rattle.response.specs.declared.Done.{Done}
+
+pub record Seen : Type 0 where
+  pub response : Response
+  pub state : rules.State
+  pub flash : List ℕ
+  pub out : List ℕ
+
+-- what a command function left
+abbrev pub seen : Done → List ℕ → List ℕ → Seen
+seen r d out = record { response = r .response; state = view (r .state); flash = d; out = out }
+
+-- a response with its results counted, and laid over the buffer
+abbrev pub counted : commands.Response → Response
+counted (Says status results) = response.Says status (length results)
+counted Silent = response.Silent
+
+abbrev pub resultsIn : commands.Response → List ℕ → ℕ → List ℕ
+resultsIn (Says status results) out at = overlay out at results
+resultsIn Silent out at = out
+
+-- what the rules say of a command, with its results laid over the buffer from a place on
+abbrev pub done : Acted → List ℕ → ℕ → Seen
+done a out at = record { response = counted (a .response); state = a .state; flash = a .flash; out = resultsIn (a .response) out at }
+
+-- what a command function asks: none of the numbers 2 to 5 applies, and results begin behind the header, the status and their count
+pub record Serving (p : Profile) (s : State) (flashLength bufferLength at : ℕ) : Type 0 where
+  pub sound : laws.Sound (profileOf p) (view s) flashLength bufferLength
+  pub at-is : at ≡ headerLength (p .bus) + 2

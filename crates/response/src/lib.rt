@@ -1,0 +1,63 @@
+// What a command function hands back: a response and the state, with the results laid straight into the lent buffer.
+use state::State;
+ghost use mathlib.Core.Path.{_≡_};
+ghost use mathlib.Core.List.{List};
+ghost use Prim.Native.Nat.{ℕ, _+_, _≤_};
+ghost use lib.ListN.{length};
+ghost use Rattle.rules.specs.Frames.{twoBytes};
+ghost use Rattle.rules.specs.Commands.{told, ok};
+ghost use Rattle.state.specs.View.{view};
+ghost use Rattle.response.specs.Done.{seen, done};
+
+// A status with so many results, or nothing to send.
+pub enum Response {
+    Says { status: u8, count: usize },
+    Silent,
+}
+
+pub struct Done {
+    pub response: Response,
+    pub state: State,
+}
+
+// The status codes of a reply.
+pub const OK: u8 = 0;
+
+pub const COMMAND_NOT_SUPPORTED: u8 = 2;
+
+pub const INVALID_TRANSFER: u8 = 3;
+
+pub const INVALID_CRC: u8 = 4;
+
+pub const INVALID_ARGUMENTS: u8 = 5;
+
+// A status and its results; the state stays.
+pub fn say(s: State, status: u8, results: &[u8], out: &mut [u8], at: usize) -> Done
+    requires { ⌜ at + length (now results) ≤ length (now out) ⌝ }
+    ensures { λ r.
+        ⌜ ((d : List ℕ) → seen r d (now (out .exit)) ≡ done (told (view s) d status (now (results .entry))) (now (out .entry)) at) ⌝ }
+{
+    let count = results.len();
+    flash::store(out, at, results);
+    Done {
+        response: Response::Says { status, count },
+        state: s,
+    }
+}
+
+// A number in two bytes, big-endian.
+pub fn two_bytes(n: usize) -> [u8; 2]
+    requires { ⌜ n ≤ 65535 ⌝ }
+    ensures { λ r. ⌜ r ≡ twoBytes n ⌝ }
+{
+    [(n / 256 % 256) as u8, (n % 256) as u8]
+}
+
+// A status and a number of two bytes.
+pub fn say_number(s: State, n: usize, out: &mut [u8], at: usize) -> Done
+    requires { ⌜ (n ≤ 65535) × (at + 2 ≤ length (now out)) ⌝ }
+    ensures { λ r. ⌜ ((d : List ℕ) → seen r d (now (out .exit)) ≡ done (told (view s) d ok (twoBytes n)) (now (out .entry)) at) ⌝ }
+{
+    let bytes = two_bytes(n);
+    say(s, OK, &bytes, out, at)
+}

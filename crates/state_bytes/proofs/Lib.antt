@@ -1,0 +1,3 @@
+-- Laws of the state in bytes.
+pub mod FlagLaws
+pub mod Laws

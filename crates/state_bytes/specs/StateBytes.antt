@@ -1,0 +1,75 @@
+-- The state in 340 bytes: which bytes hold one, which state they say, and the bytes of a state.
+use mathlib.Core.Bool.{Bool, false, cond, _&&_}
+use mathlib.Core.List.{List, [], _∷_, _++_}
+use Prim.Native.Nat.{ℕ}
+use lib.Dec.{eqb, leb}
+use lib.ListN.{length, getD, replicate}
+use Rattle.rules.specs.declared.kinds.Address.{Address}
+use Rattle.rules.specs.declared.kinds.Address.the-variants.{DefaultRange, Own}
+use Rattle.rules.specs.Numbers.{laid}
+use Rattle.state.specs.declared.State.{State}
+use Rattle.state.specs.View.{page, largestFrame}
+use Rattle.fields.specs.Fields.{part, fourAt, fourBytes}
+
+-- `STATE_BYTES`
+abbrev pub stateSize : ℕ
+stateSize = 340
+
+-- byte 0 is an address kind and byte 2 says whether the board runs, each 0 or 1; bytes past the 340 mean nothing
+abbrev pub stateHeld : List ℕ → Bool
+stateHeld b = leb stateSize (length b) && (leb (getD b 0 0) 1 && leb (getD b 2 0) 1)
+
+-- 0 default range, 1 own address
+abbrev pub addressOf : ℕ → ℕ → Address
+addressOf kind own = cond (eqb kind 0) DefaultRange (Own own)
+
+abbrev pub kindByte : Address → ℕ
+kindByte DefaultRange = 0
+kindByte (Own own) = 1
+
+-- in the default range the own address is written as 0
+abbrev pub ownByte : Address → ℕ
+ownByte DefaultRange = 0
+ownByte (Own own) = own
+
+abbrev pub runningByte : Bool → ℕ
+runningByte running = cond running 1 0
+
+-- byte 3 means nothing, nor does byte 1 in the default range
+abbrev pub stateSaid : List ℕ → State
+stateSaid b = record {
+  address = addressOf (getD b 0 0) (getD b 1 0);
+  running = eqb (getD b 2 0) 1;
+  upload = record { next = fourAt b 4; held = fourAt b 8; count = fourAt b 12; waiting = part b 20 page };
+  last = record { len = fourAt b 16; bytes = part b 84 largestFrame };
+}
+
+-- what bytes that hold no state read as: a byte waits before any was accepted, which is malformed
+abbrev pub noState : State
+noState = record {
+  address = DefaultRange;
+  running = false;
+  upload = record { next = 0; held = 1; count = 0; waiting = replicate page 0 };
+  last = record { len = 0; bytes = replicate largestFrame 0 };
+}
+
+-- any bytes read as a state
+unfoldable pub stateAt : List ℕ → State
+stateAt b = cond (stateHeld b) (stateSaid b) noState
+
+-- all but the two buffers; byte 3 is written as 0
+abbrev pub headBytes : State → List ℕ
+headBytes s =
+    (kindByte (s .address) ∷ ownByte (s .address) ∷ runningByte (s .running) ∷ 0 ∷ [])
+    ++ fourBytes (s .upload .next)
+    ++ fourBytes (s .upload .held)
+    ++ fourBytes (s .upload .count)
+    ++ fourBytes (s .last .len)
+
+-- the bytes of a state
+unfoldable pub stateBytes : State → List ℕ
+stateBytes s = headBytes s ++ s .upload .waiting ++ s .last .bytes
+
+-- a buffer after a state was written into it; one that is too short stays as it was
+unfoldable pub stateWritten : State → List ℕ → List ℕ
+stateWritten s b = cond (leb stateSize (length b)) (laid (stateBytes s) b) b

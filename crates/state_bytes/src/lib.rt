@@ -1,0 +1,170 @@
+// The state in 340 bytes, as it crosses the C boundary: include/childbus.h has the layout as a table, specs/ as definitions.
+// Bytes that hold no state read as a malformed state, so that the board's own test answers them.
+use fields::four_at;
+use fields::store_four;
+use rules::kinds::Address;
+use state::Last;
+use state::State;
+use state::Upload;
+ghost use mathlib.Core.Path.{_≡_};
+ghost use Prim.Native.Nat.{_≤_};
+ghost use lib.ListN.{length};
+ghost use Rattle.rules.specs.Numbers.{laid};
+ghost use Rattle.fields.specs.Fields.{part};
+ghost use Rattle.state_bytes.specs.BothWays.{BothWays};
+ghost use Rattle.state_bytes.specs.StateBytes.{stateSize, stateSaid, noState, stateAt, addressOf, kindByte, ownByte, runningByte, headBytes, stateWritten};
+
+// How many bytes a state takes.
+pub const STATE_BYTES: usize = 340;
+
+// 0 default range, 1 own address.
+fn address_of(kind: u8, own: u8) -> Address
+    ensures { λ r. ⌜ r ≡ addressOf kind own ⌝ }
+{
+    if kind == 0 {
+        Address::DefaultRange
+    } else {
+        Address::Own(own)
+    }
+}
+
+fn waiting_at(b: &[u8]) -> [u8; State::PAGE]
+    requires { ⌜ stateSize ≤ length (now b) ⌝ }
+    ensures { λ r. ⌜ r ≡ part (now (b .entry)) 20 64 ⌝ }
+{
+    let mut waiting = [0u8; State::PAGE];
+    flash::store(&mut waiting, 0, &b[20..84]);
+    waiting
+}
+
+fn reply_at(b: &[u8]) -> [u8; State::LARGEST_FRAME]
+    requires { ⌜ stateSize ≤ length (now b) ⌝ }
+    ensures { λ r. ⌜ r ≡ part (now (b .entry)) 84 256 ⌝ }
+{
+    let mut reply = [0u8; State::LARGEST_FRAME];
+    flash::store(&mut reply, 0, &b[84..340]);
+    reply
+}
+
+// The state of bytes that hold one.
+fn state_said(b: &[u8]) -> State
+    requires { ⌜ stateSize ≤ length (now b) ⌝ }
+    ensures { λ r. ⌜ r ≡ stateSaid (now (b .entry)) ⌝ }
+{
+    let waiting = waiting_at(b);
+    let bytes = reply_at(b);
+    State {
+        address: address_of(b[0], b[1]),
+        running: b[2] == 1,
+        upload: Upload {
+            next: four_at(b, 4),
+            held: four_at(b, 8),
+            count: four_at(b, 12),
+            waiting,
+        },
+        last: Last {
+            len: four_at(b, 16),
+            bytes,
+        },
+    }
+}
+
+// No board is in it: a byte waits before any was accepted.
+fn no_state() -> State
+    ensures { λ r. ⌜ r ≡ noState ⌝ }
+{
+    State {
+        address: Address::DefaultRange,
+        running: false,
+        upload: Upload {
+            next: 0,
+            held: 1,
+            count: 0,
+            waiting: [0u8; State::PAGE],
+        },
+        last: Last {
+            len: 0,
+            bytes: [0u8; State::LARGEST_FRAME],
+        },
+    }
+}
+
+// The state that bytes say.
+pub fn state_from(b: &[u8]) -> State
+    ensures { λ r. ⌜ r ≡ stateAt (now (b .entry)) ⌝ }
+{
+    if b.len() < STATE_BYTES {
+        return no_state();
+    }
+    let kind = b[0];
+    if 1 < kind {
+        return no_state();
+    }
+    let running = b[2];
+    if 1 < running {
+        return no_state();
+    }
+    state_said(b)
+}
+
+fn kind_byte(a: Address) -> u8
+    ensures { λ r. ⌜ r ≡ kindByte a ⌝ }
+{
+    match a {
+        Address::DefaultRange => 0,
+        Address::Own(_) => 1,
+    }
+}
+
+fn own_byte(a: Address) -> u8
+    ensures { λ r. ⌜ r ≡ ownByte a ⌝ }
+{
+    match a {
+        Address::DefaultRange => 0,
+        Address::Own(own) => own,
+    }
+}
+
+fn running_byte(running: bool) -> u8
+    ensures { λ r. ⌜ r ≡ runningByte running ⌝ }
+{
+    if running { 1 } else { 0 }
+}
+
+// Writes all of a state but its two buffers.
+fn store_head(s: State, b: &mut [u8])
+    requires { ⌜ stateSize ≤ length (now b) ⌝ }
+    ensures { λ _. ⌜ now (b .exit) ≡ laid (headBytes s) (now (b .entry)) ⌝ }
+{
+    let address = s.address;
+    let flags = [
+        kind_byte(address),
+        own_byte(address),
+        running_byte(s.running),
+        0,
+    ];
+    flash::store(b, 0, &flags);
+    store_four(b, 4, s.upload.next);
+    store_four(b, 8, s.upload.held);
+    store_four(b, 12, s.upload.count);
+    store_four(b, 16, s.last.len);
+}
+
+// Writes a state into the first bytes of a buffer; one that is too short stays as it was.
+pub fn state_to(s: State, b: &mut [u8])
+    ensures { λ _. ⌜ now (b .exit) ≡ stateWritten s (now (b .entry)) ⌝ }
+{
+    if b.len() < STATE_BYTES {
+        return;
+    }
+    store_head(s, b);
+    let waiting = s.upload.waiting;
+    flash::store(b, 20, &waiting);
+    let bytes = s.last.bytes;
+    flash::store(b, 84, &bytes);
+}
+
+// The layout loses nothing that a board can hold.
+pub fn both_ways()
+    ensures { λ _. ⌜ BothWays ⌝ }
+{}

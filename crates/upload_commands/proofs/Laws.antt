@@ -1,0 +1,60 @@
+-- What write and finalize ask of the upload holds where none of the numbers 2 to 5 applies. Assumes nothing.
+use mathlib.Core.Path.{_≡_, refl, sym, ap, _∙_}
+use mathlib.Core.Bool.{Bool, true, false, _||_, and-eq-true-iff}
+use mathlib.Core.List.{List}
+use Prim.Native.Nat.{ℕ, _+_, _-_, _≤_}
+use native.Mathlib.Omega.{arith}
+use lib.Dec.{eqb, leb}
+use lib.ListN.{length, take, drop, length-drop}
+use lib.Seq.{take-all}
+use borrow.Author.Tests.{eqb-true, leb-true}
+use Rattle.rules.specs.Profile.{inRange}
+use Rattle.rules.specs.State as rules
+use Rattle.rules.specs.State.{uploadFormed}
+use Rattle.rules.specs.Commands.{accepted, begun}
+use Rattle.laws.proofs.StateLaws.{uploadFormed-facts, facts-uploadFormed}
+use Rattle.state.specs.declared.State.{State}
+use Rattle.state.specs.declared.Upload.{Upload}
+use Rattle.state.specs.View.{page, uploadOf}
+use Rattle.profile.specs.declared.Profile.{Profile}
+use Rattle.response.specs.Done.{Serving}
+use Rattle.upload.specs.Progress.{Ready, Formed}
+
+-- all of the data behind a write's address
+pub take-rest : (args : List ℕ) (k : ℕ) → take (length args - k) (drop k args) ≡ drop k args
+take-rest args k = take-all (length args - k) (drop k args) (rw length-drop (omega arith))
+
+module _ (p : Profile) (s : State) (n m at : ℕ) (serving : Serving p s n m at) where
+  pub upload-formed : uploadFormed page (p .size) (uploadOf (s .upload)) ≡ true
+  upload-formed = facts-uploadFormed page (p .size) (uploadOf (s .upload)) (serving .sound .state .upload)
+
+  -- an upload that is formed goes on
+  pub ready : (u : Upload) → uploadFormed page (p .size) (uploadOf u) ≡ true → Ready p u n
+  ready u formed = record { in-range = serving .sound .in-range; flash-holds = serving .sound .flash-holds; formed = formed }
+
+  -- the erase count fits two bytes
+  pub count-most : (u : Upload) (next : ℕ) → Formed p u next → u .count ≤ 65535
+  count-most u next formed =
+      let f = uploadFormed-facts page (p .size) (uploadOf u) (formed .formed) in
+      omega (arith, f .count-most, f .next-most, serving .sound .profile .size-most)
+
+-- an upload that begins anew, or goes on, is formed
+pub begun-formed : (P S a : ℕ) (u : rules.Upload) → uploadFormed P S u ≡ true → uploadFormed P S (begun a u) ≡ true
+begun-formed P S a u formed = go (eqb a 0) refl
+  where
+    go : (b : Bool) → eqb a 0 ≡ b → uploadFormed P S (begun a u) ≡ true
+    go true e = rw e (facts-uploadFormed P S rules.freshUpload (record { next-most = omega arith; waiting-most = omega arith; count-most = omega arith }))
+    go false e = rw e formed
+
+-- an accepted write's data follow the bytes that the upload has then, within S
+pub accepted-fits : (S a n : ℕ) (u : rules.Upload) → accepted S (u .next) a n ≡ true → begun a u .next + n ≤ S
+accepted-fits S a n u e = go (eqb a 0) refl
+  where
+    parts : ((eqb a 0 || eqb a (u .next)) ≡ true) × (leb (a + n) S ≡ true)
+    parts = and-eq-true-iff (eqb a 0 || eqb a (u .next)) (leb (a + n) S) .0 e
+
+    go : (b : Bool) → eqb a 0 ≡ b → begun a u .next + n ≤ S
+    go true f = rw f (omega (arith, leb-true (a + n) S (parts .1)))
+    go false f =
+        let next : eqb a (u .next) ≡ true = rw f at (parts .0) in
+        rw f (omega (arith, eqb-true a (u .next) next, leb-true (a + n) S (parts .1)))

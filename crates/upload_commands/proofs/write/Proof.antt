@@ -1,0 +1,161 @@
+-- `upload_commands::write` meets its contract: its test is `accepted`, and an accepted write is taken by `upload::take`. Assumes nothing.
+use Rattle.upload_commands.proofs.Laws.{take-rest, ready, upload-formed, begun-formed, accepted-fits}
+use Rattle.rules.specs.Commands.{accepted, begun, written}
+use borrow.Author.Tests.{not-true, not-false}
+use Rattle.response.proofs.Laws.{few-fit}
+use Rattle.upload.specs.Progress.{progressOf}
+use Rattle.profile.specs.View.{profileOf}
+use Rattle.state.specs.View.{page, uploadOf}
+use Rattle.rules.specs.Frames.{numberAt}
+use Rattle.rules.specs.Commit.{Progress, takenAll}
+use lib.ListN.{length, take, drop, getD, length-take, length-drop}
+use Prim.Native.Nat.{ℕ, _+_, _-_, _*_, _≤_}
+use mathlib.Core.List.{List}
+use mathlib.Core.Bool.{true, false}
+use mathlib.Core.Path.{_≡_, refl, sym, ap, _∙_}
+use native.Mathlib.Omega.{arith}
+use borrow.Author.Needs.{needs}
+use Rattle.upload_commands.proofs.write.Statement.{statement}
+use Rattle.upload_commands.proofs.write.Tie as tie
+
+shared-slice-read-wide : tie.Need-shared-slice-read-wide
+shared-slice-read-wide c = search needs
+
+wide-requires : tie.Need-wide-requires
+wide-requires c κs = search needs
+
+mul-address : tie.Need-mul-address
+mul-address c = search needs
+
+shared-slice-read-wide-2 : tie.Need-shared-slice-read-wide-2
+shared-slice-read-wide-2 c = search needs
+
+wide-requires-2 : tie.Need-wide-requires-2
+wide-requires-2 c κs = search needs
+
+add-address : tie.Need-add-address
+add-address c = search needs
+
+sub-bytes : tie.Need-sub-bytes
+sub-bytes c = search needs
+
+part-bytes-start : tie.Need-part-bytes-start
+part-bytes-start c = search needs
+
+part-bytes-end : tie.Need-part-bytes-end
+part-bytes-end c = search needs
+
+accepts-requires : tie.Need-accepts-requires
+accepts-requires c κs =
+    let a = c .before .before in
+    let st = a .before .before .before .before .before .before .before in
+    simp (length-take, length-drop) (omega (arith, a .wide2 .ensures .1, a .before .before .wide .ensures .1, st .good .1 .1 .0 .1))
+
+slice-aggregate-say : tie.Need-slice-aggregate-say
+slice-aggregate-say c = search needs
+
+say-requires : tie.Need-say-requires
+say-requires c κs =
+    let st = c .before .before .before .before .before .before .before .before .before .before .before .before .before in
+    few-fit (st .args .p) (st .args .s) _ _ (st .args .at) 0 (st .pre .0) (omega arith)
+
+same-length : tie.Need-same-length
+same-length c = search needs
+
+returns : tie.Need-returns
+unfolding written
+returns c =
+    let t = c .before .before .before .before .before in
+    let a = t .before in
+    let w2 = a .before .before .before in
+    let w1 = w2 .before .before in
+    let st = w1 .before .before .before .before .before in
+    let args = st .args .args .now in
+    let s = st .args .s in
+    let no : accepted (st .args .p .size) (s .upload .next) (numberAt args 0) (length (drop 2 args)) ≡ false =
+    rw (take-rest args 2, w1 .wide .ensures .0, w2 .wide2 .ensures .0) at (sym (a .accepts .ensures) ∙ not-true (a .accepts .result) (t .if1 .taken)) in
+    rw no (c .before .before .say .ensures (st .args .flash .now))
+
+begin-requires : tie.Need-begin-requires
+begin-requires c κs = search needs
+
+take-requires : tie.Need-take-requires
+take-requires c κs =
+    let b = c .before in
+    let a = b .before .before in
+    let w2 = a .before .before .before in
+    let w1 = w2 .before .before in
+    let st = w1 .before .before .before .before .before in
+    let args = st .args .args .now in
+    let p = st .args .p in
+    let s = st .args .s in
+    let address = w1 .wide .result * 256 + w2 .wide2 .result in
+    let many = length (take (length args - 2) (drop 2 args)) in
+    let yes : accepted (p .size) (s .upload .next) address many ≡ true = sym (a .accepts .ensures) ∙ not-false (a .accepts .result) (b .before .if1 .left) in
+    let formed = upload-formed p s _ _ (st .args .at) (st .pre .0) in (
+      ready p s _ _ (st .args .at) (st .pre .0) (b .begin .result) (rw (b .begin .ensures) (begun-formed page (p .size) address (uploadOf (s .upload)) formed)),
+      rw (ap (λ u. u .next) (b .begin .ensures)) (accepted-fits (p .size) address many (uploadOf (s .upload)) yes),
+    )
+
+with-upload-requires : tie.Need-with-upload-requires
+with-upload-requires c κs = search needs
+
+slice-aggregate-say-2 : tie.Need-slice-aggregate-say-2
+slice-aggregate-say-2 c = search needs
+
+say-requires-2 : tie.Need-say-requires-2
+say-requires-2 c κs =
+    let st = c .before .before .before .before .before .before .before .before .before .before .before .before .before .before .before .before .before .before .before in
+    few-fit (st .args .p) (st .args .s) _ _ (st .args .at) 0 (st .pre .0) (omega arith)
+
+same-length-2 : tie.Need-same-length-2
+same-length-2 c = search needs
+
+same-length-3 : tie.Need-same-length-3
+same-length-3 c = search needs
+
+returns-2 : tie.Need-returns-2
+unfolding written
+returns-2 c =
+    let w = c .before .before .before .before .before in
+    let t = w .before .before .before in
+    let b = t .before .before in
+    let a = b .before .before in
+    let w2 = a .before .before .before in
+    let w1 = w2 .before .before in
+    let st = w1 .before .before .before .before .before in
+    let args = st .args .args .now in
+    let s = st .args .s in
+    let yes : accepted (st .args .p .size) (s .upload .next) (numberAt args 0) (length (drop 2 args)) ≡ true =
+    rw (take-rest args 2, w1 .wide .ensures .0, w2 .wide2 .ensures .0) at (sym (a .accepts .ensures) ∙ not-false (a .accepts .result) (b .before .if1 .left)) in
+    let g : progressOf (t .take .result) (t .take .last .1 .1 .1 .0)
+    ≡ takenAll (profileOf (st .args .p)) (record { upload = begun (numberAt args 0) (uploadOf (s .upload)); flash = st .args .flash .now }) (drop 2 args) =
+    rw (take-rest args 2, b .begin .ensures, w1 .wide .ensures .0, w2 .wide2 .ensures .0) at (t .take .ensures .0) in
+    rw (yes, ← g) (rw (w .with-upload .ensures) at (c .before .before .say2 .ensures (t .take .last .1 .1 .1 .0)))
+
+pub write-spec : {M : Type 1} → statement M
+write-spec =
+    tie.close
+    (tie.spec
+    shared-slice-read-wide
+    wide-requires
+    mul-address
+    shared-slice-read-wide-2
+    wide-requires-2
+    add-address
+    sub-bytes
+    part-bytes-start
+    part-bytes-end
+    accepts-requires
+    slice-aggregate-say
+    say-requires
+    same-length
+    returns
+    begin-requires
+    take-requires
+    with-upload-requires
+    slice-aggregate-say-2
+    say-requires-2
+    same-length-2
+    same-length-3
+    returns-2)
