@@ -44,7 +44,7 @@ extern "C" {
 #define CHILDBUS_REPLY_ADDRESS  10u  /* reply from another address */
 #define CHILDBUS_REPLY_LENGTH   11u  /* the length byte doesn't fit the reply */
 #define CHILDBUS_REPLY_STATUS   12u  /* status above 5 */
-#define CHILDBUS_REPLY_RESULTS  13u  /* OK with fewer results than the command's fixed part */
+#define CHILDBUS_REPLY_RESULTS  13u  /* OK without all of the command's fixed part */
 #define CHILDBUS_VERSION        14u  /* version not known */
 
 /* Statuses: the byte with which a reply begins (on RS485 after the address). This board has results with OK only. */
@@ -58,7 +58,7 @@ extern "C" {
 /* Commands. 0x02, 0x0a, 0x0b, 0x0d, 0x0e and all above are not served. */
 #define CHILDBUS_CMD_VERSION       0x00u  /* results: major, minor */
 #define CHILDBUS_CMD_SET_ADDRESS   0x01u  /* new address, hardware type (0: any) */
-#define CHILDBUS_CMD_HARDWARE_INFO 0x03u  /* results: type, compatible revision, bootloader version, S in two bytes */
+#define CHILDBUS_CMD_HARDWARE_INFO 0x03u  /* results: type and compatible revision, bootloader version, two-byte S */
 #define CHILDBUS_CMD_SERIAL        0x04u  /* results: the serial */
 #define CHILDBUS_CMD_START         0x05u  /* starts the application: no reply */
 #define CHILDBUS_CMD_WRITE         0x06u  /* flash address in two bytes, data */
@@ -91,9 +91,9 @@ extern "C" {
  *    4      bootloader version
  *    5      length of the serial, 0 to 16
  *    6..7   ignored
- *    8..11  M, longest frame, 32 to 256. On RS485 it counts address to CRC, on I2C it leaves out the address
- *   12..15  S, working flash, a multiple of 64 from 64 to 65472
- *   16..19  O, its offset in the lent flash, a multiple of 64 from 0 to 65472
+ *    8..11  M, longest frame, 32 to 256: on RS485 from address to CRC, on I2C without the address
+ *   12..15  S, working flash, 64 to 65472, a multiple of 64
+ *   16..19  O, its offset in the lent flash, 0 to 65472, a multiple of 64
  *   20..35  serial; bytes beyond its length are ignored
  *
  * A buffer shorter than CHILDBUS_PROFILE_BYTES, or a field out of its range, is number 2. Bytes past 36 are ignored.
@@ -126,7 +126,7 @@ extern "C" {
  *   84..339  last reply, as many bytes as its length says
  *
  * Number 4 is given for a buffer shorter than CHILDBUS_STATE_BYTES, an address kind or a running byte above 1,
- * next > S, w > next mod 64, count > next - w, a last reply longer than M, and a last reply on RS485. Bytes past 340
+ * next over S, w over next mod 64, count over next - w, a last reply over M bytes, and any on RS485. Bytes past 340
  * are never touched. A refused call leaves every byte as it was. After 0 and 1 the bytes that mean nothing (3, the own
  * address with kind 0, waiting bytes beyond w, reply bytes beyond its length) may hold anything.
  */
@@ -164,15 +164,15 @@ uint32_t childbus_fresh(uint8_t *state, size_t state_len);
  *   made                  the reply's length with 0, else 0
  *
  * Answers 0: on RS485 send the first *made bytes of out; on I2C the master reads them (childbus_read). 1: send nothing.
- * 2, 3, 4, 5: refused, tested in this order. While the state is running every frame answers 1 and changes nothing, but
- * for the general-call reset.
+ * 2, 3, 4, 5: refused, tested in this order. While running only the general-call reset is executed; any other frame
+ * answers 1 and changes nothing.
  */
 uint32_t childbus_receive(const uint8_t *profile, size_t profile_len, uint8_t *state, size_t state_len,
                           uint32_t address, const uint8_t *frame, size_t frame_len, uint8_t *flash, size_t flash_len,
                           uint8_t *out, size_t out_len, size_t *made);
 
 /*
- * The board: an I2C read at an address. It answers the last reply unchanged, any number of times.
+ * The board: an I2C read at an address. It hands out the last reply and keeps it as it is.
  *
  *   profile, state, flash, out  as for childbus_receive; state and flash are only read
  *   address                     the 7-bit address of the read
@@ -226,11 +226,11 @@ uint32_t childbus_general(uint32_t bus, uint32_t longest, uint32_t reset, uint8_
  *   code               the command that was sent
  *   address            RS485: the address it was sent to. I2C: not looked at
  *   asked              read: the length asked for. Other commands: not looked at
- *   reply, reply_len   the reply. On I2C bytes after its CRC are ignored, on RS485 there may be none
+ *   reply, reply_len   the reply. After its CRC bytes are ignored on I2C, not allowed on RS485
  *   status             0 to 5
  *   start, len         the results. Results beside a status other than OK, and more than the fixed part, are handed out
  *
- * Fixed parts: version 2, hardware info 5, revision 1, finalize 2, M 2, read the length asked, all others 0.
+ * Fixed parts: revision 1; version, finalize and M 2; hardware info 5; read the length asked; any other 0.
  * Answers 0, or 7, 8, 11, 9, 10, 12, 13, tested in this order; then status, start and len are 0.
  */
 uint32_t childbus_decode(uint32_t bus, uint32_t code, uint32_t address, uint32_t asked, const uint8_t *reply,
@@ -251,7 +251,7 @@ uint32_t childbus_two_reads(uint32_t code, uint32_t asked, const uint8_t *first,
                             const uint8_t *second, size_t second_len, size_t *start, size_t *len);
 
 /*
- * The version rule: major 1 (minor 0 to 1) and 2 (minor 0 to 2) are known; a higher minor counts as the highest known.
+ * The version rule: minors 0 and 1 of major 1 and 0 to 2 of major 2 are known; a higher one counts as the highest.
  *
  *   major, minor               as the board answered to CHILDBUS_CMD_VERSION
  *   known_major, known_minor   the version it counts as; 0 and 0 with answer 14

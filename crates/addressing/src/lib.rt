@@ -2,7 +2,7 @@
 use rules::kinds::Address;
 use rules::kinds::Bus;
 ghost use mathlib.Core.Path.{_≡_};
-ghost use Rattle.rules.specs.Frames.{addressFits, answersTo, hears};
+ghost use Rattle.rules.specs.Frames.{addressFits, answersTo, addressed};
 
 // I²C addresses have 7 bits.
 fn address_fits(bus: Bus, to: u8) -> bool
@@ -25,8 +25,8 @@ fn answers_to(own: Address, to: u8) -> bool
 }
 
 // A destination is this board. Address 0 is always the general call.
-pub fn hears(bus: Bus, own: Address, to: u8) -> bool
-    ensures { λ r. ⌜ r ≡ hears bus own to ⌝ }
+pub fn addressed(bus: Bus, own: Address, to: u8) -> bool
+    ensures { λ r. ⌜ r ≡ addressed bus own to ⌝ }
 {
     if to == 0 {
         return false;

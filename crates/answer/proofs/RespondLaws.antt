@@ -11,7 +11,7 @@ use Rattle.rules.specs.State as rules
 use Rattle.rules.specs.Numbers.{laid}
 use Rattle.rules.specs.Frames.{headerLength, shortestReply, reply}
 use Rattle.rules.specs.Commands as commands
-use Rattle.rules.specs.Commands.{Acted, Says, Silent}
+use Rattle.rules.specs.Commands.{Acted, Reply, NoReply}
 use Rattle.rules.specs.Board.{finishedCall, withLast, nothing}
 use Rattle.laws.proofs.CommandLaws.{length-reply}
 use Rattle.laws.proofs.LaidLaws.{take-laid}
@@ -21,7 +21,7 @@ use Rattle.response.specs.declared.Response.the-variants as response
 use Rattle.response.specs.declared.Done.{Done}
 use Rattle.response.specs.Done as buffered
 use Rattle.frame.specs.Reply.{Closing, resultsAt}
-use Rattle.answer.specs.Answered.{Seen, told}
+use Rattle.answer.specs.Answered.{CallEffect, expectedEffect}
 
 module _ (o : List ℕ) (at : ℕ) (bytes : List ℕ) (fits : at + length bytes ≤ length o) where
   -- the bytes laid over a list stand there
@@ -55,40 +55,40 @@ closed-laid bus to status results o out1 out2 room e f =
     f ∙ rw (there, behind)
 
 -- what is left by a response of a status with results
-pub says-told : (bus : Bus) (to status count n : ℕ) (done : Done) (s : rules.State) (d o out1 out2 : List ℕ) (a : Acted)
-    → done .response ≡ response.Says status count → length o ≡ length out1 → buffered.seen done d out1 ≡ buffered.done a o (headerLength bus + 2)
+pub with-reply-ruled : (bus : Bus) (to status count n : ℕ) (done : Done) (s : rules.State) (d o out1 out2 : List ℕ) (a : Acted)
+    → done .response ≡ response.Reply status count → length o ≡ length out1 → buffered.commandEffect done d out1 ≡ buffered.ruledCommand a o (headerLength bus + 2)
     → count + shortestReply bus ≤ length out1 → Closing bus to status count out1 out2 n → s ≡ withLast bus (view (done .state)) (take n out2)
-    → _≡_ {A = Seen} (record { number = 0; made = n; state = s; flash = d; out = out2 }) (told (finishedCall bus to a) o)
-says-told bus to status count n done s d o out1 out2 a said long acted room closing kept = go (a .response) refl
+    → _≡_ {A = CallEffect} (record { number = 0; made = n; state = s; flash = d; out = out2 }) (expectedEffect (finishedCall bus to a) o)
+with-reply-ruled bus to status count n done s d o out1 out2 a said long acted room closing kept = go (a .response) refl
   where
-    go : (r : commands.Response) → a .response ≡ r → _≡_ {A = Seen} (record { number = 0; made = n; state = s; flash = d; out = out2 }) (told (finishedCall bus to a) o)
-    go Silent e =
-        let same : response.Says status count ≡ response.Silent = sym said ∙ ap (λ (x : buffered.Seen). x .response) acted ∙ ap buffered.counted e in
+    go : (r : commands.Response) → a .response ≡ r → _≡_ {A = CallEffect} (record { number = 0; made = n; state = s; flash = d; out = out2 }) (expectedEffect (finishedCall bus to a) o)
+    go NoReply e =
+        let same : response.Reply status count ≡ response.NoReply = sym said ∙ ap (λ (x : buffered.CommandEffect). x .response) acted ∙ ap buffered.counted e in
         absurd (let z : _≡_ {A = ℕ} 0 1 = cc in omega arith)
-    go (Says st results) e =
-        let same : response.Says status count ≡ response.Says st (length results) = sym said ∙ ap (λ (x : buffered.Seen). x .response) acted ∙ ap buffered.counted e in
+    go (Reply st results) e =
+        let same : response.Reply status count ≡ response.Reply st (length results) = sym said ∙ ap (λ (x : buffered.CommandEffect). x .response) acted ∙ ap buffered.counted e in
         let status-is : status ≡ st = cc in
         let count-is : count ≡ length results = cc in
         let whole = reply bus to st results in
         let out1-is : out1 ≡ overlay o (headerLength bus + 2) results =
-        ap (λ (x : buffered.Seen). x .out) acted ∙ ap (λ (x : commands.Response). buffered.resultsIn x o (headerLength bus + 2)) e in
+        ap (λ (x : buffered.CommandEffect). x .out) acted ∙ ap (λ (x : commands.Response). buffered.resultsIn x o (headerLength bus + 2)) e in
         let out2-is : out2 ≡ laid whole o =
         closed-laid bus to st results o out1 out2 (omega arith) out1-is (rw (status-is, count-is) at (closing .bytes-are)) in
         let n-is : n ≡ length whole = closing .length-is ∙ omega (arith, length-reply bus to st results) in
         let kept-is : s ≡ withLast bus (a .state) whole =
-        kept ∙ rw (out2-is, take-laid whole o n (sym n-is), ap (λ (x : buffered.Seen). x .state) acted) in
-        rw (e, n-is, kept-is, out2-is, ap (λ (x : buffered.Seen). x .flash) acted)
+        kept ∙ rw (out2-is, take-laid whole o n (sym n-is), ap (λ (x : buffered.CommandEffect). x .state) acted) in
+        rw (e, n-is, kept-is, out2-is, ap (λ (x : buffered.CommandEffect). x .flash) acted)
 
 -- and by silence
-pub silent-told : (bus : Bus) (to : ℕ) (done : Done) (s : rules.State) (d o out1 : List ℕ) (a : Acted)
-    → done .response ≡ response.Silent → buffered.seen done d out1 ≡ buffered.done a o (headerLength bus + 2) → s ≡ withLast bus (view (done .state)) []
-    → _≡_ {A = Seen} (record { number = 1; made = 0; state = s; flash = d; out = out1 }) (told (finishedCall bus to a) o)
-silent-told bus to done s d o out1 a said acted kept = go (a .response) refl
+pub no-reply-ruled : (bus : Bus) (to : ℕ) (done : Done) (s : rules.State) (d o out1 : List ℕ) (a : Acted)
+    → done .response ≡ response.NoReply → buffered.commandEffect done d out1 ≡ buffered.ruledCommand a o (headerLength bus + 2) → s ≡ withLast bus (view (done .state)) []
+    → _≡_ {A = CallEffect} (record { number = 1; made = 0; state = s; flash = d; out = out1 }) (expectedEffect (finishedCall bus to a) o)
+no-reply-ruled bus to done s d o out1 a said acted kept = go (a .response) refl
   where
-    go : (r : commands.Response) → a .response ≡ r → _≡_ {A = Seen} (record { number = 1; made = 0; state = s; flash = d; out = out1 }) (told (finishedCall bus to a) o)
-    go (Says st results) e =
-        let same : response.Silent ≡ response.Says st (length results) = sym said ∙ ap (λ (x : buffered.Seen). x .response) acted ∙ ap buffered.counted e in
+    go : (r : commands.Response) → a .response ≡ r → _≡_ {A = CallEffect} (record { number = 1; made = 0; state = s; flash = d; out = out1 }) (expectedEffect (finishedCall bus to a) o)
+    go (Reply st results) e =
+        let same : response.NoReply ≡ response.Reply st (length results) = sym said ∙ ap (λ (x : buffered.CommandEffect). x .response) acted ∙ ap buffered.counted e in
         absurd (let z : _≡_ {A = ℕ} 0 1 = cc in omega arith)
-    go Silent e =
-        let out-is : out1 ≡ o = ap (λ (x : buffered.Seen). x .out) acted ∙ ap (λ (x : commands.Response). buffered.resultsIn x o (headerLength bus + 2)) e in
-        rw (e, kept, out-is, ap (λ (x : buffered.Seen). x .state) acted, ap (λ (x : buffered.Seen). x .flash) acted)
+    go NoReply e =
+        let out-is : out1 ≡ o = ap (λ (x : buffered.CommandEffect). x .out) acted ∙ ap (λ (x : commands.Response). buffered.resultsIn x o (headerLength bus + 2)) e in
+        rw (e, kept, out-is, ap (λ (x : buffered.CommandEffect). x .state) acted, ap (λ (x : buffered.CommandEffect). x .flash) acted)

@@ -11,10 +11,10 @@ use Rattle.rules.specs.Board.{Called}
 use Rattle.state.specs.declared.State.{State}
 use Rattle.state.specs.View.{view, largestFrame}
 use Rattle.response.specs.declared.Response.{Response}
-use Rattle.response.specs.declared.Response.the-variants.{Says, Silent}
+use Rattle.response.specs.declared.Response.the-variants.{Reply, NoReply}
 use Rattle.answer.specs.declared.Answer.{Answer}
 
-pub record Seen : Type 0 where
+pub record CallEffect : Type 0 where
   pub number : ℕ
   pub made : ℕ
   pub state : rules.State
@@ -22,20 +22,20 @@ pub record Seen : Type 0 where
   pub out : List ℕ
 
 -- what a call answered and left
-abbrev pub seen : Answer → List ℕ → List ℕ → Seen
-seen r d out = record { number = number (r .outcome); made = made (r .outcome); state = view (r .state); flash = d; out = out }
+abbrev pub callEffect : Answer → List ℕ → List ℕ → CallEffect
+callEffect r d out = record { number = number (r .outcome); made = made (r .outcome); state = view (r .state); flash = d; out = out }
 
 -- what the rules say of it: the reply stands in the first bytes of the lent buffer, its rest is untouched
-abbrev pub told : Called → List ℕ → Seen
-told c out = record { number = c .number; made = length (c .reply); state = c .state; flash = c .flash; out = laid (c .reply) out }
+abbrev pub expectedEffect : Called → List ℕ → CallEffect
+expectedEffect c out = record { number = c .number; made = length (c .reply); state = c .state; flash = c .flash; out = laid (c .reply) out }
 
 -- a call on the state s answered r, and left the flash d and the buffer out, which was before
 pub record Answered (s : State) (r : Answer) (d out before : List ℕ) (c : Called) : Type 0 where
-  pub called : seen r d out ≡ told c before
+  pub called : callEffect r d out ≡ expectedEffect c before
   -- refused by 2 or above: the very state that was given, bytes that mean nothing too
   pub untouched : 2 ≤ number (r .outcome) → r .state ≡ s
 
 -- a response's results fit a lent buffer of n bytes and the last reply
 abbrev pub Fits : Bus → ℕ → Response → Type 0
-Fits bus n (Says status count) = (count + shortestReply bus ≤ largestFrame) × (count + shortestReply bus ≤ n)
-Fits bus n Silent = Unit
+Fits bus n (Reply status count) = (count + shortestReply bus ≤ largestFrame) × (count + shortestReply bus ≤ n)
+Fits bus n NoReply = Unit

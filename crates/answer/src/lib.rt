@@ -16,7 +16,7 @@ ghost use Rattle.rules.specs.Commands.{Acted};
 ghost use Rattle.rules.specs.Board.{finishedCall, nothing};
 ghost use Rattle.state.specs.View.{view};
 ghost use Rattle.response.specs.Done as buffered;
-ghost use Rattle.answer.specs.Answered.{seen, told, Fits};
+ghost use Rattle.answer.specs.Answered.{callEffect, expectedEffect, Fits};
 
 pub struct Answer {
     pub outcome: Outcome,
@@ -34,8 +34,8 @@ pub fn destination(bus: Bus, address: u8, frame: &[u8]) -> u8
 }
 
 // Nothing to send.
-pub fn quiet(s: State) -> Answer
-    ensures { λ r. ⌜ ((d : List ℕ) (o : List ℕ) → seen r d o ≡ told (nothing (view s) d) o) ⌝ }
+pub fn no_reply(s: State) -> Answer
+    ensures { λ r. ⌜ ((d : List ℕ) (o : List ℕ) → callEffect r d o ≡ expectedEffect (nothing (view s) d) o) ⌝ }
 {
     Answer {
         outcome: Outcome::Nothing,
@@ -48,20 +48,20 @@ pub fn respond(bus: Bus, to: u8, done: Done, out: &mut [u8]) -> Answer
     requires { ⌜ Fits bus (length (now out)) (done .response) ⌝ }
     ensures { λ r.
         ⌜ ((a : Acted) (d : List ℕ) (o : List ℕ)
-        → length o ≡ length (now (out .entry)) → buffered.seen done d (now (out .entry)) ≡ buffered.done a o (headerLength bus + 2)
-        → seen r d (now (out .exit)) ≡ told (finishedCall bus to a) o) ⌝ }
+        → length o ≡ length (now (out .entry)) → buffered.commandEffect done d (now (out .entry)) ≡ buffered.ruledCommand a o (headerLength bus + 2)
+        → callEffect r d (now (out .exit)) ≡ expectedEffect (finishedCall bus to a) o) ⌝ }
 {
     let response = done.response;
     let state = done.state;
     match response {
-        Response::Says { status, count } => {
+        Response::Reply { status, count } => {
             let n = close(bus, to, status, count, out);
             Answer {
                 outcome: Outcome::Reply(n),
                 state: state.with_reply(bus, &out[..n]),
             }
         }
-        Response::Silent => Answer {
+        Response::NoReply => Answer {
             outcome: Outcome::Nothing,
             state: state.without_reply(),
         },
@@ -71,10 +71,10 @@ pub fn respond(bus: Bus, to: u8, done: Done, out: &mut [u8]) -> Answer
 // A status with no results; the state stays.
 pub fn fault(bus: Bus, to: u8, s: State, status: u8, out: &mut [u8]) -> Answer
     requires { ⌜ 32 ≤ length (now out) ⌝ }
-    ensures { λ r. ⌜ ((d : List ℕ) → seen r d (now (out .exit)) ≡ told (finishedCall bus to (commands.told (view s) d status [])) (now (out .entry))) ⌝ }
+    ensures { λ r. ⌜ ((d : List ℕ) → callEffect r d (now (out .exit)) ≡ expectedEffect (finishedCall bus to (commands.replying (view s) d status [])) (now (out .entry))) ⌝ }
 {
     let done = Done {
-        response: Response::Says { status, count: 0 },
+        response: Response::Reply { status, count: 0 },
         state: s,
     };
     respond(bus, to, done, out)

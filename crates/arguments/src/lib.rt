@@ -1,10 +1,11 @@
 // Document 01, "Commands": the fixed table of argument lengths, looked up by command code. Board, encoder and decoder know from here what is served.
+use widening::wide;
 ghost use mathlib.Core.Path.{_≡_};
 ghost use Prim.Native.Nat.{ℕ};
 ghost use lib.ListN.{getD};
 ghost use Rattle.rules.specs.Commands.{tabled, served, lengthAllowed};
 
-// One row per code 0x00 to 0x0e: served or not, shortest, longest.
+// Codes 0x00 to 0x0e, a row each: served, shortest and longest.
 pub const ARGUMENTS: [[u8; 3]; 15] = [
     [1, 0, 0],
     [1, 2, 2],
@@ -22,12 +23,6 @@ pub const ARGUMENTS: [[u8; 3]; 15] = [
     [0, 0, 0],
     [0, 0, 0],
 ];
-
-fn wide(x: u8) -> usize
-    ensures { λ r. ⌜ r ≡ x ⌝ }
-{
-    x as usize
-}
 
 // The row of a code; zeros for a code that the table has no row for.
 fn row(code: usize) -> [u8; 3]

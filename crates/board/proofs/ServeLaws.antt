@@ -14,11 +14,11 @@ use Rattle.rules.specs.Profile.{Profile}
 use Rattle.rules.specs.State as rules
 use Rattle.rules.specs.Frames.{shortestRequest, shortestReply, verdict, destination, commandOf, argumentsOf}
 use Rattle.rules.specs.Commands as commands
-use Rattle.rules.specs.Commands.{Response, Says, Silent, Acted, obeyed}
-use Rattle.rules.specs.Board.{replied, judged}
+use Rattle.rules.specs.Commands.{Response, Reply, NoReply, Acted, executed}
+use Rattle.rules.specs.Board.{replied, handled}
 use Rattle.laws.proofs.CommandLaws as laws
 use Rattle.laws.proofs.VerdictLaws.{Framed, framing-cases, verdict-cases}
-use Rattle.laws.proofs.StateLaws.{Sound}
+use Rattle.laws.proofs.StateLaws.{Unrefused}
 use Rattle.response.specs.declared.Response as response
 use Rattle.response.specs.Done.{counted}
 use Rattle.answer.specs.Answered.{Fits}
@@ -32,8 +32,8 @@ take-drop k e l before within =
 
 -- a command's results fit the reply buffer and the last reply
 pub fits-counted : (p : Profile) (n : ℕ) (r : Response) → p .longest ≤ 256 → p .longest ≤ n → laws.Fits p r → Fits (p .bus) n (counted r)
-fits-counted p n (Says status results) small room fits = (omega arith, omega arith)
-fits-counted p n Silent small room fits = tt
+fits-counted p n (Reply status results) small room fits = (omega arith, omega arith)
+fits-counted p n NoReply small room fits = tt
 
 -- a frame whose verdict is a command is long enough to be one
 pub command-long : (bus : Bus) (M : ℕ) (running : Bool) (own : Address) (a : ℕ) (f : List ℕ) → verdict bus M running own a f ≡ Command → shortestRequest bus ≤ length f
@@ -75,28 +75,28 @@ command-long bus M running own a f =
 
 -- a judged frame gets 0 or 1
 replied-number : (bus : Bus) (a : ℕ) (r : Response) (s : rules.State) (d : List ℕ) → replied bus a r s d .number ≤ 1
-replied-number bus a (Says status results) s d = omega arith
-replied-number bus a Silent s d = omega arith
+replied-number bus a (Reply status results) s d = omega arith
+replied-number bus a NoReply s d = omega arith
 
-pub judged-number : (p : Profile) (s : rules.State) (a : ℕ) (f d : List ℕ) (v : Verdict) → judged p s a f d v .number ≤ 1
-unfolding judged
-judged-number p s a f d Reset = omega arith
-judged-number p s a f d Running = omega arith
-judged-number p s a f d ResetAddress = omega arith
-judged-number p s a f d Short = omega arith
-judged-number p s a f d Long = omega arith
-judged-number p s a f d WrongSum = omega arith
-judged-number p s a f d Foreign = omega arith
-judged-number p s a f d OtherGeneral = omega arith
-judged-number p s a f d BadTransfer = omega arith
-judged-number p s a f d BadSum = omega arith
-judged-number p s a f d Command =
-    let acted : Acted = obeyed p s (commandOf (p .bus) f) (argumentsOf (p .bus) f) d in
+pub handled-number : (p : Profile) (s : rules.State) (a : ℕ) (f d : List ℕ) (v : Verdict) → handled p s a f d v .number ≤ 1
+unfolding handled
+handled-number p s a f d Reset = omega arith
+handled-number p s a f d Running = omega arith
+handled-number p s a f d ResetAddress = omega arith
+handled-number p s a f d Short = omega arith
+handled-number p s a f d Long = omega arith
+handled-number p s a f d WrongSum = omega arith
+handled-number p s a f d Foreign = omega arith
+handled-number p s a f d OtherGeneral = omega arith
+handled-number p s a f d BadTransfer = omega arith
+handled-number p s a f d BadSum = omega arith
+handled-number p s a f d Command =
+    let acted : Acted = executed p s (commandOf (p .bus) f) (argumentsOf (p .bus) f) d in
     replied-number (p .bus) (destination (p .bus) a f) (acted .response) (acted .state) (acted .flash)
 
 -- what an obeyed command says fits the buffer that it was served with
-pub fits-served : (p : Profile) (s : rules.State) (code : ℕ) (args d : List ℕ) (n m k : ℕ) → Sound p s n m → length d ≡ n → k ≡ m → (r : response.Response)
-    → r ≡ counted (obeyed p s code args d .response) → Fits (p .bus) k r
+pub fits-served : (p : Profile) (s : rules.State) (code : ℕ) (args d : List ℕ) (n m k : ℕ) → Unrefused p s n m → length d ≡ n → k ≡ m → (r : response.Response)
+    → r ≡ counted (executed p s code args d .response) → Fits (p .bus) k r
 fits-served p s code args d n m k sound flash buffer r e =
-    let sane = laws.obeyed-sane p (sound .profile) s (sound .state .upload) d (omega (arith, sound .flash-holds)) code args in
-    rw e (fits-counted p k (obeyed p s code args d .response) (sound .profile .longest-most) (omega (arith, sound .buffer-holds)) (sane .fits))
+    let sane = laws.executed-formed-result p (sound .profile) s (sound .state .upload) d (omega (arith, sound .flash-holds)) code args in
+    rw e (fits-counted p k (executed p s code args d .response) (sound .profile .longest-most) (omega (arith, sound .buffer-holds)) (sane .fits))

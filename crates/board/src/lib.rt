@@ -3,7 +3,7 @@
 use answer::Answer;
 use answer::destination;
 use answer::fault;
-use answer::quiet;
+use answer::no_reply;
 use answer::respond;
 use frame::sizes::header_length;
 use frame::sizes::sum_length;
@@ -13,23 +13,18 @@ use response::INVALID_CRC;
 use response::INVALID_TRANSFER;
 use rules::kinds::Verdict;
 use state::State;
+use widening::wide;
 ghost use mathlib.Core.Path.{_≡_};
 ghost use Prim.Native.Nat.{_≤_};
 ghost use lib.ListN.{length};
 ghost use Rattle.rules.specs.Frames as frames;
 ghost use Rattle.rules.specs.Frames.{shortestRequest, commandOf, argumentsOf};
-ghost use Rattle.rules.specs.Commands.{obeyed};
-ghost use Rattle.rules.specs.Board.{finishedCall, judged, received};
+ghost use Rattle.rules.specs.Commands.{executed};
+ghost use Rattle.rules.specs.Board.{finishedCall, handled, received};
 ghost use Rattle.laws.proofs.StateLaws as laws;
 ghost use Rattle.state.specs.View.{view};
 ghost use Rattle.profile.specs.View.{profileOf};
-ghost use Rattle.answer.specs.Answered.{seen, told, Answered};
-
-fn wide(x: u8) -> usize
-    ensures { λ r. ⌜ r ≡ x ⌝ }
-{
-    x as usize
-}
+ghost use Rattle.answer.specs.Answered.{callEffect, expectedEffect, Answered};
 
 // A well-framed command to this board: taken apart, obeyed, answered.
 fn serve(
@@ -40,13 +35,13 @@ fn serve(
     flash: &mut [u8],
     out: &mut [u8],
 ) -> Answer
-    requires { ⌜ laws.Sound (profileOf p) (view s) (length (now flash)) (length (now out)) ⌝ }
+    requires { ⌜ laws.Unrefused (profileOf p) (view s) (length (now flash)) (length (now out)) ⌝ }
     requires { ⌜ shortestRequest (p .bus) ≤ length (now frame) ⌝ }
     ensures { λ r.
-        ⌜ seen r (now (flash .exit)) (now (out .exit))
-        ≡ told
+        ⌜ callEffect r (now (flash .exit)) (now (out .exit))
+        ≡ expectedEffect
         (finishedCall (p .bus) (frames.destination (p .bus) address (now (frame .entry)))
-        (obeyed (profileOf p) (view s) (commandOf (p .bus) (now (frame .entry))) (argumentsOf (p .bus) (now (frame .entry))) (now (flash .entry))))
+        (executed (profileOf p) (view s) (commandOf (p .bus) (now (frame .entry))) (argumentsOf (p .bus) (now (frame .entry))) (now (flash .entry))))
         (now (out .entry)) ⌝ }
 {
     let bus = p.bus;
@@ -54,12 +49,12 @@ fn serve(
     let code = wide(frame[head]);
     let start = head + 1;
     let end = frame.len() - sum_length(bus);
-    let done = commands::obey(p, s, code, &frame[start..end], flash, out, head + 2);
+    let done = commands::execute(p, s, code, &frame[start..end], flash, out, head + 2);
     respond(bus, destination(bus, address, frame), done, out)
 }
 
 // A frame by its verdict.
-fn judge(
+fn handle(
     p: Profile,
     s: State,
     address: u8,
@@ -67,26 +62,26 @@ fn judge(
     flash: &mut [u8],
     out: &mut [u8],
 ) -> Answer
-    requires { ⌜ laws.Sound (profileOf p) (view s) (length (now flash)) (length (now out)) ⌝ }
+    requires { ⌜ laws.Unrefused (profileOf p) (view s) (length (now flash)) (length (now out)) ⌝ }
     ensures { λ r.
-        ⌜ seen r (now (flash .exit)) (now (out .exit))
-        ≡ told
-        (judged (profileOf p) (view s) address (now (frame .entry)) (now (flash .entry))
+        ⌜ callEffect r (now (flash .exit)) (now (out .exit))
+        ≡ expectedEffect
+        (handled (profileOf p) (view s) address (now (frame .entry)) (now (flash .entry))
         (frames.verdict (p .bus) (p .longest) (s .running) (s .address) address (now (frame .entry))))
         (now (out .entry)) ⌝ }
 {
     let bus = p.bus;
     let own = s.address;
-    let v = verdict::judge(bus, p.longest, s.running, own, address, frame);
+    let v = verdict::classify(bus, p.longest, s.running, own, address, frame);
     match v {
-        Verdict::Reset => quiet(State::fresh()),
-        Verdict::Running => quiet(s),
-        Verdict::ResetAddress => quiet(s.address_reset()),
-        Verdict::Short => quiet(s),
-        Verdict::Long => quiet(s),
-        Verdict::WrongSum => quiet(s),
-        Verdict::Foreign => quiet(s),
-        Verdict::OtherGeneral => quiet(s),
+        Verdict::Reset => no_reply(State::fresh()),
+        Verdict::Running => no_reply(s),
+        Verdict::ResetAddress => no_reply(s.address_reset()),
+        Verdict::Short => no_reply(s),
+        Verdict::Long => no_reply(s),
+        Verdict::WrongSum => no_reply(s),
+        Verdict::Foreign => no_reply(s),
+        Verdict::OtherGeneral => no_reply(s),
         Verdict::BadTransfer => fault(
             bus,
             destination(bus, address, frame),
@@ -116,5 +111,5 @@ pub fn receive(
     if let Check::Refused(outcome) = check {
         return Answer { outcome, state: s };
     }
-    judge(p, s, address, frame, flash, out)
+    handle(p, s, address, frame, flash, out)
 }

@@ -96,7 +96,7 @@ fn by_letter(
 }
 
 // Whether a line says nothing: an empty one, or one that begins with `#`.
-fn is_silent(line: &[u8]) -> bool {
+fn is_no_reply(line: &[u8]) -> bool {
     if line.len() == 0 {
         return true;
     }
@@ -105,7 +105,7 @@ fn is_silent(line: &[u8]) -> bool {
 
 // Any line.
 pub fn carry_out(line: &[u8], setup: Setup, flash: &mut [u8], out: &mut [u8], at: usize) -> Step {
-    if is_silent(line) {
+    if is_no_reply(line) {
         return Step {
             setup,
             to: at,

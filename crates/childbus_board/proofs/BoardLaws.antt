@@ -16,10 +16,10 @@ use Rattle.profile.specs.View.{profileOf}
 use Rattle.profile_bytes.specs.ProfileBytes.{profileAt}
 use Rattle.state_bytes.specs.StateBytes.{stateAt, stateWritten}
 use Rattle.answer.specs.declared.Answer.{Answer}
-use Rattle.answer.specs.Answered.{Seen, seen, told, Answered}
+use Rattle.answer.specs.Answered.{CallEffect, callEffect, expectedEffect, Answered}
 use Rattle.fields.specs.Fields.{clipped}
-use Rattle.childbus_board.specs.BoardBytes.{settled, ReceivedLeft, callOf, receivedLeft, ReadLeft, readLeft}
-use Rattle.childbus_board.proofs.FarLaws.{received-clipped, readOut-clipped}
+use Rattle.childbus_board.specs.BoardBytes.{normalized, ReceivedLeft, callOf, receivedLeft, ReadLeft, readLeft}
+use Rattle.childbus_board.proofs.ForeignLaws.{received-clipped, readOut-clipped}
 
 -- the calls
 
@@ -27,14 +27,14 @@ module _ (profile state : List ℕ) (address : ℕ) (flash out : List ℕ)
     {p : Profile} {s : State} {a : ℕ} (p-is : p ≡ profileAt profile) (s-is : s ≡ stateAt state) (a-is : a ≡ clipped address)
     {r : Answer} {d o : List ℕ} {n m : ℕ} (n-is : n ≡ number (r .outcome)) (m-is : m ≡ made (r .outcome)) where
   module _ (frame : List ℕ) (answered : Answered s r d o out (received (profileOf p) (view s) a frame flash (length out))) where
-    seen-is : seen r d o ≡ told (callOf profile state address frame flash out) out
+    seen-is : callEffect r d o ≡ expectedEffect (callOf profile state address frame flash out) out
     seen-is =
         let call : received (profileOf p) (view s) a frame flash (length out) ≡ callOf profile state address frame flash out =
         rw (p-is, s-is, a-is) (received-clipped (profileOf (profileAt profile)) (view (stateAt state)) address flash (length out) frame) in
-        answered .called ∙ ap (λ (c : Called). told c out) call
+        answered .called ∙ ap (λ (c : Called). expectedEffect c out) call
 
     number-is : n ≡ callOf profile state address frame flash out .number
-    number-is = n-is ∙ ap (λ (x : Seen). x .number) seen-is
+    number-is = n-is ∙ ap (λ (x : CallEffect). x .number) seen-is
 
     -- refused: the state buffer is not written
     pub received-refused-left : 2 ≤ n
@@ -45,13 +45,13 @@ module _ (profile state : List ℕ) (address : ℕ) (flash out : List ℕ)
         rw (
           le-ltb (callOf profile state address frame flash out .number) 2 refused,
           number-is,
-          m-is ∙ ap (λ (x : Seen). x .made) seen-is,
-          ap (λ (x : Seen). x .flash) seen-is,
-          ap (λ (x : Seen). x .out) seen-is,
+          m-is ∙ ap (λ (x : CallEffect). x .made) seen-is,
+          ap (λ (x : CallEffect). x .flash) seen-is,
+          ap (λ (x : CallEffect). x .out) seen-is,
         )
 
     -- not refused: the new state is written, settled
-    pub received-kept-left : {s′ : State} {b : List ℕ} → n < 2 → s′ ≡ settled (view (r .state)) → b ≡ stateWritten s′ state
+    pub received-kept-left : {s′ : State} {b : List ℕ} → n < 2 → s′ ≡ normalized (view (r .state)) → b ≡ stateWritten s′ state
         → _≡_ {A = ReceivedLeft} (record { number = n; made = m; state = b; flash = d; out = o }) (receivedLeft profile state address frame flash out)
     unfolding receivedLeft
     received-kept-left h s′-is b-is =
@@ -59,11 +59,11 @@ module _ (profile state : List ℕ) (address : ℕ) (flash out : List ℕ)
         rw (
           lt-ltb (callOf profile state address frame flash out .number) 2 kept,
           number-is,
-          m-is ∙ ap (λ (x : Seen). x .made) seen-is,
+          m-is ∙ ap (λ (x : CallEffect). x .made) seen-is,
           b-is,
-          s′-is ∙ ap (λ (x : Seen). settled (x .state)) seen-is,
-          ap (λ (x : Seen). x .flash) seen-is,
-          ap (λ (x : Seen). x .out) seen-is,
+          s′-is ∙ ap (λ (x : CallEffect). normalized (x .state)) seen-is,
+          ap (λ (x : CallEffect). x .flash) seen-is,
+          ap (λ (x : CallEffect). x .out) seen-is,
         )
 
   pub read-left : Answered s r d o out (readOut (profileOf p) (view s) a flash (length out))
@@ -73,5 +73,5 @@ module _ (profile state : List ℕ) (address : ℕ) (flash out : List ℕ)
       let called : Called = readOut (profileOf (profileAt profile)) (view (stateAt state)) address flash (length out) in
       let call : readOut (profileOf p) (view s) a flash (length out) ≡ readOut (profileOf (profileAt profile)) (view (stateAt state)) address flash (length out) =
       rw (p-is, s-is, a-is) (readOut-clipped (profileOf (profileAt profile)) (view (stateAt state)) address flash (length out)) in
-      let seen-is : seen r d o ≡ told called out = answered .called ∙ ap (λ (c : Called). told c out) call in
-      rw (n-is ∙ ap (λ (x : Seen). x .number) seen-is, m-is ∙ ap (λ (x : Seen). x .made) seen-is, ap (λ (x : Seen). x .out) seen-is)
+      let seen-is : callEffect r d o ≡ expectedEffect called out = answered .called ∙ ap (λ (c : Called). expectedEffect c out) call in
+      rw (n-is ∙ ap (λ (x : CallEffect). x .number) seen-is, m-is ∙ ap (λ (x : CallEffect). x .made) seen-is, ap (λ (x : CallEffect). x .out) seen-is)

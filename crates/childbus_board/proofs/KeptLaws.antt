@@ -14,9 +14,9 @@ use Rattle.rules.specs.State as rules
 use Rattle.rules.specs.State.{used, wellFormed}
 use Rattle.rules.specs.Numbers.{refusal}
 use Rattle.rules.specs.Board.{Called, received}
-use Rattle.laws.proofs.StateLaws.{Sound, length-used, inRange-facts, wellFormed-facts, refusal-sound}
+use Rattle.laws.proofs.StateLaws.{Unrefused, length-used, inRange-facts, wellFormed-facts, refusal-unrefused}
 use Rattle.laws.proofs.UploadLaws.{by-test}
-use Rattle.laws.proofs.BoardLaws.{received-orderly, received-refused, refusal-least}
+use Rattle.laws.proofs.BoardLaws.{received-formed-call, received-refused, refusal-least}
 use Rattle.state.specs.View.{page, largestFrame, view, zeroed}
 use Rattle.profile.specs.View.{profileOf}
 use Rattle.profile_bytes.specs.ProfileBytes.{profileAt}
@@ -24,22 +24,22 @@ use Rattle.state_bytes.specs.StateBytes.{stateSize, stateHeld, stateAt, stateWr
 use Rattle.state_bytes.specs.BothWays.{StateFits}
 use Rattle.fields.proofs.Laws.{&&-true}
 use Rattle.state_bytes.proofs.Laws.{state-fits, state-read, state-malformed}
-use Rattle.childbus_board.specs.BoardBytes.{settled, freshLeft, callOf, receivedLeft}
-use Rattle.childbus_board.proofs.SettleLaws.{view-settled}
+use Rattle.childbus_board.specs.BoardBytes.{normalized, freshLeft, callOf, receivedLeft}
+use Rattle.childbus_board.proofs.NormalizeLaws.{view-normalized}
 
 -- a well-formed state, settled, written and read again
 module _ (p : paper.Profile) (s : rules.State) (range : inRange p ≡ true) (formed : wellFormed p s ≡ true) where
-  settled-says : view (settled s) ≡ s
-  settled-says =
+  normalized-says : view (normalized s) ≡ s
+  normalized-says =
       let sizes = inRange-facts p range in
       let facts = wellFormed-facts p s formed in
       let below : s .upload .next % p .page < p .page = mod-lt (s .upload .next) (omega arith) in
-      view-settled s (omega arith) (omega arith)
+      view-normalized s (omega arith) (omega arith)
 
-  pub written-says : (b : List ℕ) → stateSize ≤ length b → view (stateAt (stateWritten (settled s) b)) ≡ s
+  pub written-says : (b : List ℕ) → stateSize ≤ length b → view (stateAt (stateWritten (normalized s) b)) ≡ s
   written-says b long =
-      let fits = state-fits p (settled s) (length-used page (s .upload .waiting)) (length-used largestFrame (s .last)) range (rw settled-says formed) in
-      ap view (state-read (settled s) b fits long) ∙ settled-says
+      let fits = state-fits p (normalized s) (length-used page (s .upload .waiting)) (length-used largestFrame (s .last)) range (rw normalized-says formed) in
+      ap view (state-read (normalized s) b fits long) ∙ normalized-says
 
 -- childbus_fresh
 
@@ -54,13 +54,13 @@ fresh-says state long = rw (le-leb stateSize (length state) long, state-read zer
 
 module _ (p : paper.Profile) (s : rules.State) (a : ℕ) (f d : List ℕ) (n : ℕ) where
   -- a number below 2 is no refusal
-  kept-sound : received p s a f d n .number < 2 → Sound p s (length d) n
-  kept-sound h =
+  kept-unrefused : received p s a f d n .number < 2 → Unrefused p s (length d) n
+  kept-unrefused h =
       by-test (eqb (refusal p s (length d) n) 0)
-      (λ e. refusal-sound p s (length d) n (eqb-true _ _ e))
+      (λ e. refusal-unrefused p s (length d) n (eqb-true _ _ e))
       (λ e.
       let least : 2 ≤ refusal p s (length d) n = refusal-least p s (length d) n e in
-      let told : received p s a f d n .number ≡ refusal p s (length d) n = ap (λ (c : Called). c .number) (received-refused p s d a f n (λ q. omega arith)) in
+      let expectedEffect : received p s a f d n .number ≡ refusal p s (length d) n = ap (λ (c : Called). c .number) (received-refused p s d a f n (λ q. omega arith)) in
       absurd (omega arith))
 
 -- bytes that say a well-formed state are long enough for one
@@ -75,8 +75,8 @@ module _ (profile state : List ℕ) (address : ℕ) (frame flash out : List ℕ)
       → view (stateAt (receivedLeft profile state address frame flash out .state)) ≡ callOf profile state address frame flash out .state
   unfolding receivedLeft
   kept-says h =
-      let sound = kept-sound (profileOf (profileAt profile)) (view (stateAt state)) address frame flash (length out) h in
-      let formed = received-orderly (profileOf (profileAt profile)) (view (stateAt state)) flash address frame (length out) (sound .well-formed) .well-formed in
+      let sound = kept-unrefused (profileOf (profileAt profile)) (view (stateAt state)) address frame flash (length out) h in
+      let formed = received-formed-call (profileOf (profileAt profile)) (view (stateAt state)) flash address frame (length out) (sound .well-formed) .well-formed in
       let long = held-long (profileOf (profileAt profile)) state (sound .well-formed) in
       rw (lt-ltb (callOf profile state address frame flash out .number) 2 h) (written-says (profileOf (profileAt profile)) _ (sound .in-range) formed state long)
 

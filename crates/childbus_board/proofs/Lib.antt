@@ -1,5 +1,5 @@
 -- Laws of the C boundary, for the board.
-pub mod SettleLaws
-pub mod FarLaws
+pub mod NormalizeLaws
+pub mod ForeignLaws
 pub mod BoardLaws
 pub mod KeptLaws

@@ -19,14 +19,14 @@ use Rattle.state_bytes.specs.StateBytes.{stateSize, stateAt, stateWritten}
 
 -- the state of the code that says s, with zeros in the bytes that mean nothing
 
-abbrev pub settledUpload : rules.Upload → Upload
-settledUpload u = record { next = u .next; held = length (u .waiting); count = u .count; waiting = used page (u .waiting) }
+abbrev pub normalizedUpload : rules.Upload → Upload
+normalizedUpload u = record { next = u .next; held = length (u .waiting); count = u .count; waiting = used page (u .waiting) }
 
-abbrev pub settledLast : List ℕ → Last
-settledLast l = record { len = length l; bytes = used largestFrame l }
+abbrev pub normalizedLast : List ℕ → Last
+normalizedLast l = record { len = length l; bytes = used largestFrame l }
 
-abbrev pub settled : rules.State → State
-settled s = record { address = s .address; running = s .running; upload = settledUpload (s .upload); last = settledLast (s .last) }
+abbrev pub normalized : rules.State → State
+normalized s = record { address = s .address; running = s .running; upload = normalizedUpload (s .upload); last = normalizedLast (s .last) }
 
 -- childbus_fresh
 
@@ -49,7 +49,7 @@ pub record ReceivedLeft : Type 0 where
 
 -- a refused call leaves every byte of the state; any other leaves the new state in the first 340, and the rest
 abbrev pub stateLeft : Called → List ℕ → List ℕ
-stateLeft c state = cond (ltb (c .number) 2) (stateWritten (settled (c .state)) state) state
+stateLeft c state = cond (ltb (c .number) 2) (stateWritten (normalized (c .state)) state) state
 
 abbrev pub receivedBy : Called → List ℕ → List ℕ → ReceivedLeft
 receivedBy c state out =

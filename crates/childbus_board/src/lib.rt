@@ -1,9 +1,9 @@
 // The C boundary of a board: the fresh state, a received frame, an I²C read, as include/childbus.h declares them, over byte slices and numbers. A slice
 // is a pointer and a length to C, a `&mut` number the place of a single result. No call has a `requires`: any bytes of any length get the answer that
 // specs/ fixes.
-mod settle;
+mod normalize;
 
-use crate::settle::settle;
+use crate::normalize::normalize;
 use fields::clip;
 use numbers::board_number;
 use numbers::reply_length;
@@ -50,7 +50,7 @@ pub extern "C" fn childbus_receive(
     if 2 <= number {
         return number;
     }
-    state_bytes::state_to(settle(left), state);
+    state_bytes::state_to(normalize(left), state);
     number
 }
 
@@ -71,9 +71,9 @@ pub extern "C" fn childbus_read(
     let built = profile_bytes::profile_from(profile);
     let held = state_bytes::state_from(state);
     let answer = readout::read(built, held, clip(address), flash, out);
-    let told = answer.outcome;
-    *made = reply_length(told);
-    board_number(told)
+    let outcome = answer.outcome;
+    *made = reply_length(outcome);
+    board_number(outcome)
 }
 
 // What a call leaves in the state buffer says the state that the rules give.

@@ -38,14 +38,14 @@ pub extern "C" fn childbus_decode(
         reply,
     );
     let Decoded::Reply {
-        status: told,
+        status: status_byte,
         start: place,
         len: long,
     } = answer
     else {
         return decoded_number(answer);
     };
-    *status = told as u32;
+    *status = status_byte as u32;
     *start = place;
     *len = long;
     0

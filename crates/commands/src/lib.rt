@@ -7,10 +7,10 @@ use state::State;
 ghost use mathlib.Core.Path.{_≡_};
 ghost use mathlib.Core.Bool.{true};
 ghost use lib.ListN.{length};
-ghost use Rattle.rules.specs.Commands.{served, lengthAllowed, performed, obeyed};
+ghost use Rattle.rules.specs.Commands.{served, lengthAllowed, performed, executed};
 ghost use Rattle.state.specs.View.{view};
 ghost use Rattle.profile.specs.View.{profileOf};
-ghost use Rattle.response.specs.Done.{seen, done, Serving};
+ghost use Rattle.response.specs.Done.{commandEffect, ruledCommand, Serving};
 
 // The command's own rule. The last arm is 0x0c, the longest frame.
 fn perform(
@@ -25,7 +25,7 @@ fn perform(
     requires { ⌜ Serving p s (length (now flash)) (length (now out)) at ⌝ }
     requires { ⌜ lengthAllowed code (length (now args)) ≡ true ⌝ }
     ensures { λ r.
-        ⌜ seen r (now (flash .exit)) (now (out .exit)) ≡ done (performed (profileOf p) (view s) code (now (args .entry)) (now (flash .entry))) (now (out .entry)) at ⌝ }
+        ⌜ commandEffect r (now (flash .exit)) (now (out .exit)) ≡ ruledCommand (performed (profileOf p) (view s) code (now (args .entry)) (now (flash .entry))) (now (out .entry)) at ⌝ }
 {
     match code {
         0x00 => queries::version(s, out, at),
@@ -37,12 +37,12 @@ fn perform(
         0x07 => upload_commands::finalize(p, s, flash, out, at),
         0x08 => queries::read(p, s, args, &flash[..], out, at),
         0x09 => queries::revision(p, s, out, at),
-        _ => response::say_number(s, p.longest, out, at),
+        _ => response::reply_number(s, p.longest, out, at),
     }
 }
 
 // A command with its arguments, its results laid into the lent buffer from a place on.
-pub fn obey(
+pub fn execute(
     p: Profile,
     s: State,
     code: usize,
@@ -53,13 +53,13 @@ pub fn obey(
 ) -> Done
     requires { ⌜ Serving p s (length (now flash)) (length (now out)) at ⌝ }
     ensures { λ r.
-        ⌜ seen r (now (flash .exit)) (now (out .exit)) ≡ done (obeyed (profileOf p) (view s) code (now (args .entry)) (now (flash .entry))) (now (out .entry)) at ⌝ }
+        ⌜ commandEffect r (now (flash .exit)) (now (out .exit)) ≡ ruledCommand (executed (profileOf p) (view s) code (now (args .entry)) (now (flash .entry))) (now (out .entry)) at ⌝ }
 {
     if !arguments::served(code) {
-        return response::say(s, COMMAND_NOT_SUPPORTED, &[], out, at);
+        return response::reply(s, COMMAND_NOT_SUPPORTED, &[], out, at);
     }
     if !arguments::length_allowed(code, args.len()) {
-        return response::say(s, INVALID_ARGUMENTS, &[], out, at);
+        return response::reply(s, INVALID_ARGUMENTS, &[], out, at);
     }
     perform(p, s, code, args, flash, out, at)
 }

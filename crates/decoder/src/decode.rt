@@ -1,18 +1,13 @@
 // The reply decoder.
 use rules::kinds::Bus;
 use rules::requests::Decoded;
+use widening::wide;
 ghost use mathlib.Core.Path.{_≡_};
 ghost use Prim.Native.Nat.{_+_, _<_, _≤_};
 ghost use lib.ListN.{length};
 ghost use Rattle.rules.specs.Frames.{shortestReply};
 ghost use Rattle.rules.specs.Master.{decoded, opened, fixedPart, resultsMissing, lengthRight, fromOther, countOf};
 ghost use Rattle.decoder.specs.Calls.{Decodes};
-
-fn wide(x: u8) -> usize
-    ensures { λ r. ⌜ r ≡ x ⌝ }
-{
-    x as usize
-}
 
 // The number of results that an OK to a command has at least; for read the length asked.
 fn fixed_part(code: usize, asked: usize) -> usize
@@ -29,7 +24,7 @@ fn fixed_part(code: usize, asked: usize) -> usize
     }
 }
 
-// OK with fewer results than the command's fixed part.
+// OK without all of the command's fixed part.
 fn results_missing(code: usize, asked: usize, status: u8, n: usize) -> bool
     ensures { λ r. ⌜ r ≡ resultsMissing code asked status n ⌝ }
 {

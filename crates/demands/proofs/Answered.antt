@@ -16,12 +16,12 @@ use Rattle.rules.specs.Profile.{Profile}
 use Rattle.rules.specs.State.{State}
 use Rattle.rules.specs.CheckSums.{sumRight}
 use Rattle.rules.specs.Frames.{shortestRequest, destination, commandOf, argumentsOf, numberAt, framing, verdict}
-use Rattle.rules.specs.Commands.{Says, told, accepted, written, readable, shown, performed, obeyed, tabled, ok, invalidArguments}
-use Rattle.rules.specs.Board.{finishedCall, judged}
+use Rattle.rules.specs.Commands.{Reply, replying, accepted, written, readable, shown, performed, executed, tabled, ok, invalidArguments}
+use Rattle.rules.specs.Board.{finishedCall, handled}
 use Rattle.laws.proofs.UploadLaws.{by-test}
 use Rattle.laws.proofs.VerdictLaws.{Framed, framing-cases, verdict-cases}
 use Rattle.demands.specs.Past.{isCommand, wellFramed}
-use Rattle.demands.proofs.PastLaws.{seen}
+use Rattle.demands.proofs.PastLaws.{pastOf}
 
 isCommand-true : (v : Verdict) → isCommand v ≡ true → v ≡ Command
 isCommand-true Reset e = absurd (false≢true e)
@@ -44,7 +44,7 @@ arguments-within : (bus : Bus) (f : List ℕ) → shortestRequest bus ≤ length
 arguments-within I2c f h = omega (arith, length-arguments 1 1 f)
 arguments-within Rs485 f h = omega (arith, length-arguments 2 2 f)
 
-module _ (p : Profile) (s : State) (a : ℕ) (f : List ℕ) (heard : wellFramed p (seen s) a f ≡ true) where
+module _ (p : Profile) (s : State) (a : ℕ) (f : List ℕ) (heard : wellFramed p (pastOf s) a f ≡ true) where
   stopped : s .running ≡ false
   unfolding wellFramed
   stopped = not-true (s .running) (and-eq-true-iff (not (s .running)) (isCommand (framing (p .bus) (p .longest) (s .address) a f)) .0 heard .0)
@@ -71,12 +71,12 @@ module _ (p : Profile) (s : State) (a : ℕ) (f : List ℕ) (heard : wellFramed 
 
   verdict-command : verdict (p .bus) (p .longest) (s .running) (s .address) a f ≡ Command
   unfolding verdict
-  verdict-command = rw (framed .addressed, stopped, framing-command)
+  verdict-command = rw (framed .not-general, stopped, framing-command)
 
-  pub judged-command : (d : List ℕ) → judged p s a f d (verdict (p .bus) (p .longest) (s .running) (s .address) a f)
-      ≡ finishedCall (p .bus) (destination (p .bus) a f) (obeyed p s (commandOf (p .bus) f) (argumentsOf (p .bus) f) d)
-  unfolding judged
-  judged-command d = rw verdict-command
+  pub handled-command : (d : List ℕ) → handled p s a f d (verdict (p .bus) (p .longest) (s .running) (s .address) a f)
+      ≡ finishedCall (p .bus) (destination (p .bus) a f) (executed p s (commandOf (p .bus) f) (argumentsOf (p .bus) f) d)
+  unfolding handled
+  handled-command d = rw verdict-command
 
   pub arguments-most : p .longest ≤ 256 → length (argumentsOf (p .bus) f) ≤ 254
   arguments-most h = omega (arith, framed .length-most, arguments-within (p .bus) f (framed .length-least))
@@ -88,41 +88,41 @@ module _ (p : Profile) (s : State) (args d : List ℕ) where
   abbrev ordered : Bool
   ordered = leb 2 (length args) && accepted (p .size) (s .upload .next) (numberAt args 0) (length args - 2)
 
-  pub write-accepted : length args ≤ 254 → ordered ≡ true → obeyed p s 0x06 args d .response ≡ Says ok []
-  unfolding obeyed performed tabled written
+  pub write-accepted : length args ≤ 254 → ordered ≡ true → executed p s 0x06 args d .response ≡ Reply ok []
+  unfolding executed performed tabled written
   write-accepted most e =
       let parts = and-eq-true-iff (leb 2 (length args)) (accepted (p .size) (s .upload .next) (numberAt args 0) (length args - 2)) .0 e in
       rw (parts .0, le-leb (length args) 254 most, length-drop 2 args, parts .1)
 
-  pub write-refused : ordered ≡ false → obeyed p s 0x06 args d ≡ told s d invalidArguments []
-  unfolding obeyed performed tabled written
+  pub write-refused : ordered ≡ false → executed p s 0x06 args d ≡ replying s d invalidArguments []
+  unfolding executed performed tabled written
   write-refused e =
       by-test (leb 2 (length args))
       (λ two.
       by-test (leb (length args) 254) (λ most. rw (two, most, length-drop 2 args, rw two at e)) (λ most. rw (two, most)))
       (λ two. rw two)
 
-  pub version-told : args ≡ [] → obeyed p s 0x00 args d ≡ told s d ok (2 ∷ 2 ∷ [])
-  unfolding obeyed performed tabled
-  version-told e = rw e
+  pub version-replying : args ≡ [] → executed p s 0x00 args d ≡ replying s d ok (2 ∷ 2 ∷ [])
+  unfolding executed performed tabled
+  version-replying e = rw e
 
-  pub read-told : length args ≡ 3 → readable p (numberAt args 0) (getD args 2 0) ≡ true
-      → obeyed p s 0x08 args d ≡ told s d ok (take (getD args 2 0) (drop (p .offset + numberAt args 0) d))
-  unfolding obeyed performed tabled shown
-  read-told three e = rw (three, e)
+  pub read-replying : length args ≡ 3 → readable p (numberAt args 0) (getD args 2 0) ≡ true
+      → executed p s 0x08 args d ≡ replying s d ok (take (getD args 2 0) (drop (p .offset + numberAt args 0) d))
+  unfolding executed performed tabled shown
+  read-replying three e = rw (three, e)
 
 -- on RS485 a damaged frame is dropped
 pub damaged-dropped : (p : Profile) (s : State) (a : ℕ) (f d : List ℕ) → p .bus ≡ Rs485 → sumRight Rs485 f ≡ false
-    → judged p s a f d (verdict (p .bus) (p .longest) (s .running) (s .address) a f) .number ≡ 1
-unfolding judged
+    → handled p s a f d (verdict (p .bus) (p .longest) (s .running) (s .address) a f) .number ≡ 1
+unfolding handled
 damaged-dropped p s a f d bus wrong =
-    verdict-cases (p .bus) (p .longest) (s .running) (s .address) a f (λ (v : Verdict). judged p s a f d v .number ≡ 1)
+    verdict-cases (p .bus) (p .longest) (s .running) (s .address) a f (λ (v : Verdict). handled p s a f d v .number ≡ 1)
     (record {
       reset = λ e. refl;
       run = λ g e. refl;
       reset-address = λ g e r. refl;
       framed = λ g e r.
-          framing-cases (p .bus) (p .longest) (s .address) a f (λ (v : Verdict). judged p s a f d v .number ≡ 1)
+          framing-cases (p .bus) (p .longest) (s .address) a f (λ (v : Verdict). handled p s a f d v .number ≡ 1)
           (record {
             short = λ b. refl;
             long = λ b. refl;

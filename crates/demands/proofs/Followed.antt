@@ -13,18 +13,18 @@ use Rattle.rules.specs.Profile.{Profile}
 use Rattle.rules.specs.State.{State}
 use Rattle.rules.specs.Frames.{reply, destination, commandOf, argumentsOf, numberAt, twoBytes, resetFrame, resetAddressFrame, isGeneral}
 use Rattle.rules.specs.Commit.{Progress, takenAll, finalized}
-use Rattle.rules.specs.Commands.{Acted, Says, told, withUpload, addressTaken, setAddress, hardwareInfo, serialNumber, started, accepted, begun, written, finished, readable, shown, obeyed, tabled, lengthAllowed, ok, commandNotSupported, invalidArguments}
+use Rattle.rules.specs.Commands.{Acted, Reply, replying, withUpload, addressTaken, setAddress, hardwareInfo, serialNumber, started, accepted, restarted, written, finished, readable, shown, executed, tabled, lengthAllowed, ok, commandNotSupported, invalidArguments}
 use Rattle.rules.specs.Board.{Called, finishedCall}
 use Rattle.laws.proofs.UploadLaws.{by-test, next-takenAll, next-finalized}
-use Rattle.laws.proofs.CommandLaws.{next-begun, obeyed-cases}
+use Rattle.laws.proofs.CommandLaws.{next-restarted, executed-cases}
 use Rattle.ledger.specs.Ledger.{writeAddress, writeData}
 use Rattle.ledger.proofs.FrameReading.{write-address, write-data}
 use Rattle.demands.specs.Past.{wellFramed, afterFrame}
-use Rattle.demands.proofs.PastLaws.{seen, seen-withLast, after-silence, after-reply, after-address, after-write}
+use Rattle.demands.proofs.PastLaws.{pastOf, pastOf-withLast, after-silence, after-reply, after-address, after-write}
 
 -- the tracker fed with what a call answers shows what the call leaves
 abbrev pub Follows : Profile → State → ℕ → List ℕ → Called → Type 0
-Follows p s a f c = afterFrame p (seen s) a f (c .number) (c .reply) ≡ seen (c .state)
+Follows p s a f c = afterFrame p (pastOf s) a f (c .number) (c .reply) ≡ pastOf (c .state)
 
 -- and with what a command does
 abbrev Followed : Profile → State → ℕ → List ℕ → Acted → Type 0
@@ -39,23 +39,23 @@ allowed-most code n e = leb-true n (tabled code 2) (and-eq-true-iff (leb (tabled
 
 module _ (p : Profile) (s : State) (a : ℕ) (f d : List ℕ) where
   -- a reply: the last reply is not seen
-  says-followed : (left : State) (e : List ℕ) (status : ℕ) (results : List ℕ)
-      → afterFrame p (seen s) a f 0 (reply (p .bus) (destination (p .bus) a f) status results) ≡ seen left
-      → Followed p s a f (record { response = Says status results; state = left; flash = e })
-  says-followed left e status results h = h ∙ sym (seen-withLast (p .bus) left (reply (p .bus) (destination (p .bus) a f) status results))
+  reply-followed : (left : State) (e : List ℕ) (status : ℕ) (results : List ℕ)
+      → afterFrame p (pastOf s) a f 0 (reply (p .bus) (destination (p .bus) a f) status results) ≡ pastOf left
+      → Followed p s a f (record { response = Reply status results; state = left; flash = e })
+  reply-followed left e status results h = h ∙ sym (pastOf-withLast (p .bus) left (reply (p .bus) (destination (p .bus) a f) status results))
 
   -- one that changes nothing, to another command than set address and write, or not OK
-  told-followed : (status : ℕ) (results : List ℕ) → (eqb (commandOf (p .bus) f) 0x01 && eqb status 0) ≡ false → (eqb (commandOf (p .bus) f) 0x06 && eqb status 0) ≡ false
-      → Followed p s a f (told s d status results)
-  told-followed status results no-address no-write =
-      says-followed s d status results (after-reply p (seen s) a f (destination (p .bus) a f) status results no-address no-write)
+  replying-followed : (status : ℕ) (results : List ℕ) → (eqb (commandOf (p .bus) f) 0x01 && eqb status 0) ≡ false → (eqb (commandOf (p .bus) f) 0x06 && eqb status 0) ≡ false
+      → Followed p s a f (replying s d status results)
+  replying-followed status results no-address no-write =
+      reply-followed s d status results (after-reply p (pastOf s) a f (destination (p .bus) a f) status results no-address no-write)
 
-  pub refused-followed : (status : ℕ) → eqb status 0 ≡ false → Followed p s a f (told s d status [])
-  refused-followed status e = told-followed status [] (rw e (and-false (eqb (commandOf (p .bus) f) 0x01))) (rw e (and-false (eqb (commandOf (p .bus) f) 0x06)))
+  pub refused-followed : (status : ℕ) → eqb status 0 ≡ false → Followed p s a f (replying s d status [])
+  refused-followed status e = replying-followed status [] (rw e (and-false (eqb (commandOf (p .bus) f) 0x01))) (rw e (and-false (eqb (commandOf (p .bus) f) 0x06)))
 
   ok-followed : (code : ℕ) (results : List ℕ) → commandOf (p .bus) f ≡ code → eqb code 0x01 ≡ false → eqb code 0x06 ≡ false
-      → Followed p s a f (told s d ok results)
-  ok-followed code results is no-address no-write = told-followed ok results (rw (is, no-address)) (rw (is, no-write))
+      → Followed p s a f (replying s d ok results)
+  ok-followed code results is no-address no-write = replying-followed ok results (rw (is, no-address)) (rw (is, no-write))
 
   serial-followed : commandOf (p .bus) f ≡ 0x04 → Followed p s a f (serialNumber p s d)
   serial-followed is =
@@ -71,10 +71,10 @@ module _ (p : Profile) (s : State) (a : ℕ) (f d : List ℕ) where
   unfolding finished
   finalize-followed is =
       let g : Progress = finalized p (record { upload = s .upload; flash = d }) in
-      let kept : seen s ≡ seen (withUpload s (g .upload)) =
+      let kept : pastOf s ≡ pastOf (withUpload s (g .upload)) =
       ap (λ (n : ℕ). record { running = s .running; address = s .address; next = n }) (sym (next-finalized p (record { upload = s .upload; flash = d }))) in
-      says-followed (withUpload s (g .upload)) (g .flash) ok (twoBytes (g .upload .count))
-      (after-reply p (seen s) a f (destination (p .bus) a f) ok (twoBytes (g .upload .count)) (rw is) (rw is) ∙ kept)
+      reply-followed (withUpload s (g .upload)) (g .flash) ok (twoBytes (g .upload .count))
+      (after-reply p (pastOf s) a f (destination (p .bus) a f) ok (twoBytes (g .upload .count)) (rw is) (rw is) ∙ kept)
 
   -- an accepted write: next is its address and its data's length further
   accepted-followed : commandOf (p .bus) f ≡ 0x06 → 2 ≤ length (argumentsOf (p .bus) f)
@@ -83,7 +83,7 @@ module _ (p : Profile) (s : State) (a : ℕ) (f d : List ℕ) where
   unfolding written
   accepted-followed is two e =
       let args : List ℕ = argumentsOf (p .bus) f in
-      let start : Progress = record { upload = begun (numberAt args 0) (s .upload); flash = d } in
+      let start : Progress = record { upload = restarted (numberAt args 0) (s .upload); flash = d } in
       let left : State = withUpload s (takenAll p start (drop 2 args) .upload) in
       let moved : writeAddress (p .bus) f + length (writeData (p .bus) f) ≡ left .upload .next =
       omega (
@@ -91,11 +91,11 @@ module _ (p : Profile) (s : State) (a : ℕ) (f d : List ℕ) where
         write-address (p .bus) f two,
         ap length (write-data (p .bus) f),
         next-takenAll p start (drop 2 args),
-        next-begun (p .size) (length (drop 2 args)) (numberAt args 0) (s .upload) e,
+        next-restarted (p .size) (length (drop 2 args)) (numberAt args 0) (s .upload) e,
       ) in
       rw e
-      (says-followed left (takenAll p start (drop 2 args) .flash) ok []
-      (after-write p (seen s) a f (destination (p .bus) a f) is ∙ ap (λ (n : ℕ). record { running = s .running; address = s .address; next = n }) moved))
+      (reply-followed left (takenAll p start (drop 2 args) .flash) ok []
+      (after-write p (pastOf s) a f (destination (p .bus) a f) is ∙ ap (λ (n : ℕ). record { running = s .running; address = s .address; next = n }) moved))
 
   write-followed : commandOf (p .bus) f ≡ 0x06 → lengthAllowed 0x06 (length (argumentsOf (p .bus) f)) ≡ true
       → Followed p s a f (written p s (argumentsOf (p .bus) f) d)
@@ -105,7 +105,7 @@ module _ (p : Profile) (s : State) (a : ℕ) (f d : List ℕ) where
       (accepted-followed is (allowed-least 0x06 (length (argumentsOf (p .bus) f)) allowed)) (λ e. rw e (refused-followed invalidArguments refl))
 
   -- while the frame is a command to this board
-  module _ (heard : wellFramed p (seen s) a f ≡ true)
+  module _ (heard : wellFramed p (pastOf s) a f ≡ true)
       (no-reset : isGeneral (p .bus) a f (resetFrame (p .bus)) ≡ false)
       (no-address : isGeneral (p .bus) a f (resetAddressFrame (p .bus)) ≡ false) where
     address-followed : commandOf (p .bus) f ≡ 0x01 → Followed p s a f (setAddress p s (argumentsOf (p .bus) f) d)
@@ -114,20 +114,20 @@ module _ (p : Profile) (s : State) (a : ℕ) (f d : List ℕ) where
         let args : List ℕ = argumentsOf (p .bus) f in
         let left : State = record { address = Own (addressTaken (p .bus) (getD args 0 0)); running = s .running; upload = s .upload; last = s .last } in
         by-test (eqb (getD args 1 0) (p .hardware) || eqb (getD args 1 0) 0)
-        (λ e. rw e (says-followed left d ok [] (after-address p (seen s) a f (destination (p .bus) a f) is)))
+        (λ e. rw e (reply-followed left d ok [] (after-address p (pastOf s) a f (destination (p .bus) a f) is)))
         (λ e.
         rw e
-        (after-silence p (seen s) a f [] no-reset (rw no-address (and-false (not (s .running)))) (rw (heard, is)) ∙ sym (seen-withLast (p .bus) s [])))
+        (after-silence p (pastOf s) a f [] no-reset (rw no-address (and-false (not (s .running)))) (rw (heard, is)) ∙ sym (pastOf-withLast (p .bus) s [])))
 
     start-followed : commandOf (p .bus) f ≡ 0x05 → lengthAllowed 0x05 (length (argumentsOf (p .bus) f)) ≡ true → Followed p s a f (started s d)
     unfolding afterFrame tabled
     start-followed is allowed =
         let none : length (argumentsOf (p .bus) f) ≡ 0 = omega (arith, allowed-most 0x05 (length (argumentsOf (p .bus) f)) allowed) in
-        rw (no-reset, no-address, and-false (not (s .running)), heard, is, none) (sym (seen-withLast (p .bus) (started s d .state) []))
+        rw (no-reset, no-address, and-false (not (s .running)), heard, is, none) (sym (pastOf-withLast (p .bus) (started s d .state) []))
 
-    pub obeyed-followed : Followed p s a f (obeyed p s (commandOf (p .bus) f) (argumentsOf (p .bus) f) d)
-    obeyed-followed =
-        obeyed-cases p s (commandOf (p .bus) f) (argumentsOf (p .bus) f) d (Followed p s a f)
+    pub executed-followed : Followed p s a f (executed p s (commandOf (p .bus) f) (argumentsOf (p .bus) f) d)
+    executed-followed =
+        executed-cases p s (commandOf (p .bus) f) (argumentsOf (p .bus) f) d (Followed p s a f)
         (record {
           unserved = refused-followed commandNotSupported refl;
           wrong-length = refused-followed invalidArguments refl;

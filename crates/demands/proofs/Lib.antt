@@ -1,5 +1,5 @@
 pub mod Refused
-pub mod Stray
+pub mod Ignored
 pub mod PastLaws
 pub mod Followed
 pub mod Received

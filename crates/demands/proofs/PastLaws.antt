@@ -20,13 +20,13 @@ use Rattle.ledger.proofs.FrameReading.{answered-reply}
 use Rattle.demands.specs.Past.{Past, wellFramed, afterFrame}
 
 -- what the past should tell of a state
-abbrev pub seen : State → Past
-seen s = record { running = s .running; address = s .address; next = s .upload .next }
+abbrev pub pastOf : State → Past
+pastOf s = record { running = s .running; address = s .address; next = s .upload .next }
 
 -- the last reply is not seen
-pub seen-withLast : (bus : Bus) (s : State) (r : List ℕ) → seen (withLast bus s r) ≡ seen s
-seen-withLast I2c s r = refl
-seen-withLast Rs485 s r = refl
+pub pastOf-withLast : (bus : Bus) (s : State) (r : List ℕ) → pastOf (withLast bus s r) ≡ pastOf s
+pastOf-withLast I2c s r = refl
+pastOf-withLast Rs485 s r = refl
 
 -- only number 0 answers OK
 answeredOk-other : (bus : Bus) (code : ℕ) (f : List ℕ) (number : ℕ) (r : List ℕ) → eqb number 0 ≡ false → answeredOk bus code f number r ≡ false

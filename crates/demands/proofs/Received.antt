@@ -14,53 +14,53 @@ use Rattle.rules.specs.State.{State}
 use Rattle.rules.specs.Numbers.{refusal}
 use Rattle.rules.specs.Frames.{resetFrame, resetAddressFrame, isGeneral, framing, verdict}
 use Rattle.rules.specs.Commands.{invalidTransfer, invalidCrc}
-use Rattle.rules.specs.Board.{nothing, judged, received}
+use Rattle.rules.specs.Board.{nothing, handled, received}
 use Rattle.laws.proofs.UploadLaws.{by-test}
 use Rattle.laws.proofs.VerdictLaws.{framing-cases, verdict-cases}
-use Rattle.laws.proofs.BoardLaws.{received-judged, received-refused, refusal-least}
+use Rattle.laws.proofs.BoardLaws.{received-handled, received-refused, refusal-least}
 use Rattle.demands.specs.Past.{isCommand, wellFramed, afterFrame}
-use Rattle.demands.proofs.PastLaws.{seen, after-silence, after-refusal}
-use Rattle.demands.proofs.Followed.{Follows, refused-followed, obeyed-followed}
+use Rattle.demands.proofs.PastLaws.{pastOf, after-silence, after-refusal}
+use Rattle.demands.proofs.Followed.{Follows, refused-followed, executed-followed}
 
 module _ (p : Profile) (s : State) (a : ℕ) (f d : List ℕ) where
   -- nothing to send, to a frame that is no general call
-  silent-followed : (v : Verdict) → isGeneral (p .bus) a f (resetFrame (p .bus)) ≡ false → isGeneral (p .bus) a f (resetAddressFrame (p .bus)) ≡ false
+  no-reply-followed : (v : Verdict) → isGeneral (p .bus) a f (resetFrame (p .bus)) ≡ false → isGeneral (p .bus) a f (resetAddressFrame (p .bus)) ≡ false
       → isCommand v ≡ false → framing (p .bus) (p .longest) (s .address) a f ≡ v → Follows p s a f (nothing s d)
   unfolding wellFramed
-  silent-followed v no-reset no-address none is =
-      after-silence p (seen s) a f [] no-reset (rw no-address (and-false (not (s .running)))) (rw (is, none, and-false (not (s .running))))
+  no-reply-followed v no-reset no-address none is =
+      after-silence p (pastOf s) a f [] no-reset (rw no-address (and-false (not (s .running)))) (rw (is, none, and-false (not (s .running))))
 
   running-followed : isGeneral (p .bus) a f (resetFrame (p .bus)) ≡ false → s .running ≡ true → Follows p s a f (nothing s d)
   unfolding wellFramed
-  running-followed no-reset running = after-silence p (seen s) a f [] no-reset (rw running) (rw running)
+  running-followed no-reset running = after-silence p (pastOf s) a f [] no-reset (rw running) (rw running)
 
-  judged-followed : Follows p s a f (judged p s a f d (verdict (p .bus) (p .longest) (s .running) (s .address) a f))
-  unfolding judged afterFrame wellFramed
-  judged-followed =
-      verdict-cases (p .bus) (p .longest) (s .running) (s .address) a f (λ (v : Verdict). Follows p s a f (judged p s a f d v))
+  handled-followed : Follows p s a f (handled p s a f d (verdict (p .bus) (p .longest) (s .running) (s .address) a f))
+  unfolding handled afterFrame wellFramed
+  handled-followed =
+      verdict-cases (p .bus) (p .longest) (s .running) (s .address) a f (λ (v : Verdict). Follows p s a f (handled p s a f d v))
       (record {
         reset = λ e. rw e;
         run = running-followed;
         reset-address = λ no-reset stopped e. rw (no-reset, stopped, e);
         framed = λ no-reset stopped no-address.
             framing-cases (p .bus) (p .longest) (s .address) a f
-            (λ (v : Verdict). framing (p .bus) (p .longest) (s .address) a f ≡ v → Follows p s a f (judged p s a f d v))
+            (λ (v : Verdict). framing (p .bus) (p .longest) (s .address) a f ≡ v → Follows p s a f (handled p s a f d v))
             (record {
-              short = λ b. silent-followed Short no-reset no-address refl;
-              long = λ b. silent-followed Long no-reset no-address refl;
-              wrong-sum = λ b. silent-followed WrongSum no-reset no-address refl;
-              foreign = silent-followed Foreign no-reset no-address refl;
-              other-general = silent-followed OtherGeneral no-reset no-address refl;
+              short = λ b. no-reply-followed Short no-reset no-address refl;
+              long = λ b. no-reply-followed Long no-reset no-address refl;
+              wrong-sum = λ b. no-reply-followed WrongSum no-reset no-address refl;
+              foreign = no-reply-followed Foreign no-reset no-address refl;
+              other-general = no-reply-followed OtherGeneral no-reset no-address refl;
               bad-transfer = λ b is. refused-followed p s a f d invalidTransfer refl;
               bad-sum = λ b is. refused-followed p s a f d invalidCrc refl;
-              command = λ framed is. obeyed-followed p s a f d (rw (stopped, is)) no-reset no-address;
+              command = λ framed is. executed-followed p s a f d (rw (stopped, is)) no-reset no-address;
             })
             refl;
       })
 
   pub received-followed : (n : ℕ) → Follows p s a f (received p s a f d n)
   received-followed n =
-      by-test (eqb (refusal p s (length d) n) 0) (λ e. rw (received-judged p s d a f n (eqb-true _ _ e)) judged-followed)
+      by-test (eqb (refusal p s (length d) n) 0) (λ e. rw (received-handled p s d a f n (eqb-true _ _ e)) handled-followed)
       (λ e.
       rw (received-refused p s d a f n (eqb-false _ _ e))
-      (after-refusal p (seen s) a f (refusal p s (length d) n) [] (refusal-least p s (length d) n e)))
+      (after-refusal p (pastOf s) a f (refusal p s (length d) n) [] (refusal-least p s (length d) n e)))

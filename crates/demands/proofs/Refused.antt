@@ -14,32 +14,32 @@ use Rattle.rules.specs.Profile.{Profile}
 use Rattle.rules.specs.State.{State}
 use Rattle.rules.specs.Numbers.{refusal}
 use Rattle.rules.specs.Frames.{commandOf, argumentsOf, destination, verdict}
-use Rattle.rules.specs.Commands.{Response, Says, Silent, Acted, obeyed}
-use Rattle.rules.specs.Board.{Called, replied, judged, refused, received, readAnswered, readOut}
+use Rattle.rules.specs.Commands.{Response, Reply, NoReply, Acted, executed}
+use Rattle.rules.specs.Board.{Called, replied, handled, refused, received, readAnswered, readOut}
 use Rattle.laws.proofs.UploadLaws.{by-test}
-use Rattle.laws.proofs.BoardLaws.{received-judged, received-refused}
+use Rattle.laws.proofs.BoardLaws.{received-handled, received-refused}
 use Rattle.demands.specs.Untouched.{RefusedUntouched}
 
 -- a call that is not refused answers 0 or 1
 
 number-replied : (bus : Bus) (a : ℕ) (r : Response) (s : State) (d : List ℕ) → replied bus a r s d .number ≤ 1
-number-replied bus a (Says status results) s d = omega arith
-number-replied bus a Silent s d = omega arith
+number-replied bus a (Reply status results) s d = omega arith
+number-replied bus a NoReply s d = omega arith
 
-number-judged : (p : Profile) (s : State) (a : ℕ) (f d : List ℕ) (v : Verdict) → judged p s a f d v .number ≤ 1
-unfolding judged
-number-judged p s a f d Reset = omega arith
-number-judged p s a f d Running = omega arith
-number-judged p s a f d ResetAddress = omega arith
-number-judged p s a f d Short = omega arith
-number-judged p s a f d Long = omega arith
-number-judged p s a f d WrongSum = omega arith
-number-judged p s a f d Foreign = omega arith
-number-judged p s a f d OtherGeneral = omega arith
-number-judged p s a f d BadTransfer = omega arith
-number-judged p s a f d BadSum = omega arith
-number-judged p s a f d Command =
-    let act : Acted = obeyed p s (commandOf (p .bus) f) (argumentsOf (p .bus) f) d in
+number-handled : (p : Profile) (s : State) (a : ℕ) (f d : List ℕ) (v : Verdict) → handled p s a f d v .number ≤ 1
+unfolding handled
+number-handled p s a f d Reset = omega arith
+number-handled p s a f d Running = omega arith
+number-handled p s a f d ResetAddress = omega arith
+number-handled p s a f d Short = omega arith
+number-handled p s a f d Long = omega arith
+number-handled p s a f d WrongSum = omega arith
+number-handled p s a f d Foreign = omega arith
+number-handled p s a f d OtherGeneral = omega arith
+number-handled p s a f d BadTransfer = omega arith
+number-handled p s a f d BadSum = omega arith
+number-handled p s a f d Command =
+    let act : Acted = executed p s (commandOf (p .bus) f) (argumentsOf (p .bus) f) d in
     number-replied (p .bus) (destination (p .bus) a f) (act .response) (act .state) (act .flash)
 
 received-untouched : (p : Profile) (s : State) (a : ℕ) (f d : List ℕ) (n : ℕ) → 2 ≤ received p s a f d n .number
@@ -48,8 +48,8 @@ received-untouched p s a f d n h =
     by-test (eqb (refusal p s (length d) n) 0)
     (λ e.
     let v : Verdict = verdict (p .bus) (p .longest) (s .running) (s .address) a f in
-    let is = ap (λ (c : Called). c .number) (received-judged p s d a f n (eqb-true _ _ e)) in
-    absurd (omega (arith, is, number-judged p s a f d v)))
+    let is = ap (λ (c : Called). c .number) (received-handled p s d a f n (eqb-true _ _ e)) in
+    absurd (omega (arith, is, number-handled p s a f d v)))
     (λ e. rw (received-refused p s d a f n (eqb-false _ _ e)))
 
 readOut-untouched : (p : Profile) (s : State) (a : ℕ) (d : List ℕ) (n : ℕ) → 2 ≤ readOut p s a d n .number

@@ -11,9 +11,9 @@ use Rattle.rules.specs.CheckSums.{sumRight}
 use Rattle.rules.specs.Frames.{reply, destination, commandOf, argumentsOf, numberAt}
 use Rattle.rules.specs.Commands.{accepted, readable, ok, invalidArguments}
 use Rattle.ledger.specs.Calls.{Call, Frame, Read, Board, Step, traced}
-use Rattle.demands.specs.Past.{Past, begun, wellFramed, after}
+use Rattle.demands.specs.Past.{Past, initialPast, wellFramed, after}
 
--- a write in order and in range: an address of two bytes that is 0 or next, and address plus data length at most S
+-- a write in order and in range: its two-byte address is 0 or next, and its data don't run past S
 abbrev pub inOrder : Profile → Past → List ℕ → Bool
 inOrder p past f =
     leb 2 (length (argumentsOf (p .bus) f))
@@ -57,4 +57,4 @@ AllRight p past d c (s ∷ ss) = CallRight p past d c s (s .call) × AllRight p 
 abbrev pub Demand2 : Board → Type 0
 Demand2 B =
     (p : Profile) (d : List ℕ) (cs : List Call) → inRange p ≡ true → p .offset + p .size ≤ length d
-    → AllRight p begun d (B .count (B .fresh)) (traced B p d cs)
+    → AllRight p initialPast d (B .count (B .fresh)) (traced B p d cs)

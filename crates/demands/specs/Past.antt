@@ -20,8 +20,8 @@ pub record Past : Type 0 where
   pub address : Address
   pub next : ℕ
 
-abbrev pub begun : Past
-begun = record { running = false; address = DefaultRange; next = 0 }
+abbrev pub initialPast : Past
+initialPast = record { running = false; address = DefaultRange; next = 0 }
 
 abbrev pub isCommand : Verdict → Bool
 isCommand Reset = false
@@ -41,8 +41,8 @@ unfoldable pub wellFramed : Profile → Past → ℕ → List ℕ → Bool
 wellFramed p past a f = not (past .running) && isCommand (framing (p .bus) (p .longest) (past .address) a f)
 
 -- start, with no arguments, answered by nothing
-abbrev pub startHeard : Profile → Past → ℕ → List ℕ → ℕ → Bool
-startHeard p past a f number =
+abbrev pub startTaken : Profile → Past → ℕ → List ℕ → ℕ → Bool
+startTaken p past a f number =
     wellFramed p past a f && (eqb (commandOf (p .bus) f) 0x05 && (eqb (length (argumentsOf (p .bus) f)) 0 && eqb number 1))
 
 -- reset address, answered by nothing while not running
@@ -52,9 +52,9 @@ addressReset p past a f number = not (past .running) && (isGeneral (p .bus) a f 
 -- what a received frame and its answer add to the past
 unfoldable pub afterFrame : Profile → Past → ℕ → List ℕ → ℕ → List ℕ → Past
 afterFrame p past a f number reply =
-    cond (isGeneral (p .bus) a f (resetFrame (p .bus)) && eqb number 1) begun
+    cond (isGeneral (p .bus) a f (resetFrame (p .bus)) && eqb number 1) initialPast
     (cond (addressReset p past a f number) (record { running = past .running; address = DefaultRange; next = past .next })
-    (cond (startHeard p past a f number) (record { running = true; address = past .address; next = past .next })
+    (cond (startTaken p past a f number) (record { running = true; address = past .address; next = past .next })
     (cond (answeredOk (p .bus) 0x01 f number reply)
     (record { running = past .running; address = Own (addressTaken (p .bus) (getD (argumentsOf (p .bus) f) 0 0)); next = past .next })
     (cond (answeredOk (p .bus) 0x06 f number reply)

@@ -12,7 +12,7 @@ use Rattle.rules.specs.Bytes.{same}
 use Rattle.rules.specs.Profile.{Profile}
 use Rattle.rules.specs.State.{State}
 use Rattle.rules.specs.CheckSums.{sumRight}
-use Rattle.rules.specs.Frames.{destination, hears, resetFrame}
+use Rattle.rules.specs.Frames.{destination, addressed, resetFrame}
 use Rattle.rules.specs.Board.{Called, refused, received, readOut}
 
 -- a call refused by 2 or above gives back the very state, flash and buffers
@@ -24,7 +24,7 @@ RefusedUntouched =
 
 -- the frame is for neither this board nor all boards
 abbrev pub foreign : Profile → State → ℕ → List ℕ → Bool
-foreign p s a f = not (hears (p .bus) (s .address) (destination (p .bus) a f)) && not (eqb (destination (p .bus) a f) 0)
+foreign p s a f = not (addressed (p .bus) (s .address) (destination (p .bus) a f)) && not (eqb (destination (p .bus) a f) 0)
 
 -- the I²C reset has no check sum: the one byte 06 to address 0
 abbrev pub summed : Bus → ℕ → List ℕ → Bool
@@ -36,7 +36,7 @@ abbrev pub damaged : Profile → ℕ → List ℕ → Bool
 damaged p a f = summed (p .bus) a f && not (sumRight (p .bus) f)
 
 -- a foreign frame, or one with a wrong check sum, changes neither flash nor upload
-abbrev pub StrayIgnored : Type 0
-StrayIgnored =
+abbrev pub IgnoredFrames : Type 0
+IgnoredFrames =
     (p : Profile) (s : State) (a : ℕ) (f d : List ℕ) (n : ℕ) → (foreign p s a f ≡ true) ⊎ (damaged p a f ≡ true)
     → (received p s a f d n .flash ≡ d) × (received p s a f d n .state .upload ≡ s .upload)

@@ -1,7 +1,7 @@
 // Demands 1 and 2, stated where a reader meets them. The functions do nothing.
 ghost use Rattle.ledger.specs.Calls.{ruled};
 ghost use Rattle.demands.specs.Acceptance.{Demand2};
-ghost use Rattle.demands.specs.Untouched.{RefusedUntouched, StrayIgnored};
+ghost use Rattle.demands.specs.Untouched.{RefusedUntouched, IgnoredFrames};
 
 // Demand 1: a call refused by number 2 or above hands back the given state, untouched flash and buffers.
 pub fn refused_untouched()
@@ -9,8 +9,8 @@ pub fn refused_untouched()
 {}
 
 // Demand 1: a foreign frame, or one with a wrong check sum, changes neither flash nor upload.
-pub fn stray_ignored()
-    ensures { λ _. ⌜ StrayIgnored ⌝ }
+pub fn ignored_frames()
+    ensures { λ _. ⌜ IgnoredFrames ⌝ }
 {}
 
 // Demand 2: every well-framed write in order and in range is accepted, the others are refused by name.

@@ -25,7 +25,7 @@ pub(crate) fn read(p: Profile, s: State, address: u8, flash: &[u8], out: &mut [u
 pub(crate) fn judge(p: Profile, s: State, address: u8, frame: &[u8]) -> Verdict {
     let own = s.address;
     let bus = p.bus;
-    verdict::judge(bus, p.longest, s.running, own, address, frame)
+    verdict::classify(bus, p.longest, s.running, own, address, frame)
 }
 
 pub(crate) fn encode(

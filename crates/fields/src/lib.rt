@@ -1,15 +1,10 @@
 // What a byte layout is made of: numbers of four bytes, little-endian. And numbers of 32 bits that stand for a byte.
+use widening::wide;
 ghost use mathlib.Core.Path.{_≡_};
 ghost use Prim.Native.Nat.{_+_, _<_, _≤_};
 ghost use lib.ListN.{length};
 ghost use Rattle.rules.specs.Bytes.{overlay};
 ghost use Rattle.fields.specs.Fields.{fourAt, fourBytes, clipped};
-
-pub fn wide(x: u8) -> usize
-    ensures { λ r. ⌜ (r ≡ x) × (r < 256) ⌝ }
-{
-    x as usize
-}
 
 // The number that four bytes from a place on stand for.
 pub fn four_at(b: &[u8], at: usize) -> usize

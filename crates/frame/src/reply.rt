@@ -1,4 +1,4 @@
-// Document 01, "Reply": (RS485: address of the request,) status, count of results, results, check sum.
+// Document 01, "Reply": (RS485: the request's address,) status, number of results, results, check sum.
 use crate::seal::seal;
 use rules::kinds::Bus;
 ghost use Prim.Native.Nat.{_+_, _≤_};

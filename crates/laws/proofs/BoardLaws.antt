@@ -16,21 +16,21 @@ use Rattle.rules.specs.Profile.{Profile, inRange}
 use Rattle.rules.specs.State.{State, fresh, wellFormed}
 use Rattle.rules.specs.Numbers.{refusal, flashShort, bufferShort}
 use Rattle.rules.specs.Frames.{reply, destination, verdict, commandOf, argumentsOf}
-use Rattle.rules.specs.Commands.{Response, Says, Silent, Acted, invalidTransfer, invalidCrc}
-use Rattle.rules.specs.Board.{Called, withLast, replied, finishedCall, addressReset, judged, refused, received, readAnswered, readOut}
-use Rattle.laws.proofs.StateLaws.{UploadFacts, ReplyFacts, Sound, facts-wellFormed, wellFormed-facts, fresh-wellFormed, refusal-sound}
+use Rattle.rules.specs.Commands.{Response, Reply, NoReply, Acted, invalidTransfer, invalidCrc}
+use Rattle.rules.specs.Board.{Called, withLast, replied, finishedCall, addressReset, handled, refused, received, readAnswered, readOut}
+use Rattle.laws.proofs.StateLaws.{UploadFacts, ReplyFacts, Unrefused, facts-wellFormed, wellFormed-facts, fresh-wellFormed, refusal-unrefused}
 use Rattle.laws.proofs.UploadLaws.{by-test}
-use Rattle.laws.proofs.CommandLaws.{Fits, Sane, length-reply, told-sane, obeyed-sane}
+use Rattle.laws.proofs.CommandLaws.{Fits, FormedResult, length-reply, replying-formed-result, executed-formed-result}
 
 -- what a call leaves: a well-formed state, flash as long as d, a reply of at most M bytes
-pub record Orderly (p : Profile) (d : List ℕ) (c : Called) : Type 0 where
+pub record FormedCall (p : Profile) (d : List ℕ) (c : Called) : Type 0 where
   pub well-formed : wellFormed p (c .state) ≡ true
   pub flash-length : length (c .flash) ≡ length d
   pub reply-most : length (c .reply) ≤ p .longest
 
 -- nothing to send, or a refusal: the state as it was, or another that is well formed
-quiet : (p : Profile) (number : ℕ) (s : State) (d : List ℕ) → wellFormed p s ≡ true → Orderly p d (refused number s d)
-quiet p number s d formed = record { well-formed = formed; flash-length = refl; reply-most = omega arith }
+nothing-formed : (p : Profile) (number : ℕ) (s : State) (d : List ℕ) → wellFormed p s ≡ true → FormedCall p d (refused number s d)
+nothing-formed p number s d formed = record { well-formed = formed; flash-length = refl; reply-most = omega arith }
 
 pub withLast-upload : (bus : Bus) (s : State) (r : List ℕ) → withLast bus s r .upload ≡ s .upload
 withLast-upload I2c s r = refl
@@ -46,61 +46,61 @@ withLast-formed p s r formed h =
     facts-wellFormed p (withLast (p .bus) s r)
     (record { upload = rw (withLast-upload (p .bus) s r) formed; reply = withLast-reply (p .bus) (p .longest) s r h })
 
-replied-orderly : (p : Profile) (d : List ℕ) (a : ℕ) (r : Response) (s : State) (e : List ℕ) → UploadFacts (p .page) (p .size) (s .upload)
-    → length e ≡ length d → Fits p r → Orderly p d (replied (p .bus) a r s e)
-replied-orderly p d a (Says status results) s e formed same fits =
+replied-formed-call : (p : Profile) (d : List ℕ) (a : ℕ) (r : Response) (s : State) (e : List ℕ) → UploadFacts (p .page) (p .size) (s .upload)
+    → length e ≡ length d → Fits p r → FormedCall p d (replied (p .bus) a r s e)
+replied-formed-call p d a (Reply status results) s e formed same fits =
     let most : length (reply (p .bus) a status results) ≤ p .longest = omega (arith, length-reply (p .bus) a status results) in
     record { well-formed = withLast-formed p s (reply (p .bus) a status results) formed most; flash-length = same; reply-most = most }
-replied-orderly p d a Silent s e formed same fits =
+replied-formed-call p d a NoReply s e formed same fits =
     record { well-formed = withLast-formed p s [] formed (omega arith); flash-length = same; reply-most = omega arith }
 
-finishedCall-orderly : (p : Profile) (d : List ℕ) (a : ℕ) (act : Acted) → Sane p d act → Orderly p d (finishedCall (p .bus) a act)
-finishedCall-orderly p d a act sane = replied-orderly p d a (act .response) (act .state) (act .flash) (sane .formed) (sane .flash-length) (sane .fits)
+finishedCall-formed-call : (p : Profile) (d : List ℕ) (a : ℕ) (act : Acted) → FormedResult p d act → FormedCall p d (finishedCall (p .bus) a act)
+finishedCall-formed-call p d a act sane = replied-formed-call p d a (act .response) (act .state) (act .flash) (sane .formed) (sane .flash-length) (sane .fits)
 
 addressReset-formed : (p : Profile) (s : State) → UploadFacts (p .page) (p .size) (s .upload) → wellFormed p (addressReset s) ≡ true
 addressReset-formed p s formed =
     facts-wellFormed p (addressReset s) (record { upload = formed; reply = record { last-most = omega arith; last-none = λ e. refl } })
 
 module _ (p : Profile) (s : State) (d : List ℕ) where
-  judged-orderly : (n a : ℕ) (f : List ℕ) (v : Verdict) → Sound p s (length d) n → Orderly p d (judged p s a f d v)
-  unfolding judged
-  judged-orderly n a f Reset sound = quiet p 1 fresh d (fresh-wellFormed p)
-  judged-orderly n a f Running sound = quiet p 1 s d (sound .well-formed)
-  judged-orderly n a f ResetAddress sound = quiet p 1 (addressReset s) d (addressReset-formed p s (sound .state .upload))
-  judged-orderly n a f Short sound = quiet p 1 s d (sound .well-formed)
-  judged-orderly n a f Long sound = quiet p 1 s d (sound .well-formed)
-  judged-orderly n a f WrongSum sound = quiet p 1 s d (sound .well-formed)
-  judged-orderly n a f Foreign sound = quiet p 1 s d (sound .well-formed)
-  judged-orderly n a f OtherGeneral sound = quiet p 1 s d (sound .well-formed)
-  judged-orderly n a f BadTransfer sound =
-      finishedCall-orderly p d (destination (p .bus) a f) _ (told-sane p (sound .profile) s (sound .state .upload) d (sound .flash-holds) invalidTransfer [] (omega arith))
-  judged-orderly n a f BadSum sound =
-      finishedCall-orderly p d (destination (p .bus) a f) _ (told-sane p (sound .profile) s (sound .state .upload) d (sound .flash-holds) invalidCrc [] (omega arith))
-  judged-orderly n a f Command sound =
-      finishedCall-orderly p d (destination (p .bus) a f) _
-      (obeyed-sane p (sound .profile) s (sound .state .upload) d (sound .flash-holds) (commandOf (p .bus) f) (argumentsOf (p .bus) f))
+  handled-formed-call : (n a : ℕ) (f : List ℕ) (v : Verdict) → Unrefused p s (length d) n → FormedCall p d (handled p s a f d v)
+  unfolding handled
+  handled-formed-call n a f Reset sound = nothing-formed p 1 fresh d (fresh-wellFormed p)
+  handled-formed-call n a f Running sound = nothing-formed p 1 s d (sound .well-formed)
+  handled-formed-call n a f ResetAddress sound = nothing-formed p 1 (addressReset s) d (addressReset-formed p s (sound .state .upload))
+  handled-formed-call n a f Short sound = nothing-formed p 1 s d (sound .well-formed)
+  handled-formed-call n a f Long sound = nothing-formed p 1 s d (sound .well-formed)
+  handled-formed-call n a f WrongSum sound = nothing-formed p 1 s d (sound .well-formed)
+  handled-formed-call n a f Foreign sound = nothing-formed p 1 s d (sound .well-formed)
+  handled-formed-call n a f OtherGeneral sound = nothing-formed p 1 s d (sound .well-formed)
+  handled-formed-call n a f BadTransfer sound =
+      finishedCall-formed-call p d (destination (p .bus) a f) _ (replying-formed-result p (sound .profile) s (sound .state .upload) d (sound .flash-holds) invalidTransfer [] (omega arith))
+  handled-formed-call n a f BadSum sound =
+      finishedCall-formed-call p d (destination (p .bus) a f) _ (replying-formed-result p (sound .profile) s (sound .state .upload) d (sound .flash-holds) invalidCrc [] (omega arith))
+  handled-formed-call n a f Command sound =
+      finishedCall-formed-call p d (destination (p .bus) a f) _
+      (executed-formed-result p (sound .profile) s (sound .state .upload) d (sound .flash-holds) (commandOf (p .bus) f) (argumentsOf (p .bus) f))
 
-  pub received-orderly : (a : ℕ) (f : List ℕ) (n : ℕ) → wellFormed p s ≡ true → Orderly p d (received p s a f d n)
+  pub received-formed-call : (a : ℕ) (f : List ℕ) (n : ℕ) → wellFormed p s ≡ true → FormedCall p d (received p s a f d n)
   unfolding received
-  received-orderly a f n formed =
+  received-formed-call a f n formed =
       by-test (eqb (refusal p s (length d) n) 0)
-      (λ e. rw e (judged-orderly n a f _ (refusal-sound p s (length d) n (eqb-true _ _ e))))
-      (λ e. rw e (quiet p (refusal p s (length d) n) s d formed))
+      (λ e. rw e (handled-formed-call n a f _ (refusal-unrefused p s (length d) n (eqb-true _ _ e))))
+      (λ e. rw e (nothing-formed p (refusal p s (length d) n) s d formed))
 
-  pub readOut-orderly : (a n : ℕ) → wellFormed p s ≡ true → Orderly p d (readOut p s a d n)
+  pub readOut-formed-call : (a n : ℕ) → wellFormed p s ≡ true → FormedCall p d (readOut p s a d n)
   unfolding readOut
-  readOut-orderly a n formed =
+  readOut-formed-call a n formed =
       by-test (eqb (refusal p s (length d) n) 0)
       (λ e. rw e (by-test (readAnswered (p .bus) s a)
       (λ e. rw e (record { well-formed = formed; flash-length = refl; reply-most = wellFormed-facts p s formed .reply .last-most }))
-      (λ e. rw e (quiet p 1 s d formed))))
-      (λ e. rw e (quiet p (refusal p s (length d) n) s d formed))
+      (λ e. rw e (nothing-formed p 1 s d formed))))
+      (λ e. rw e (nothing-formed p (refusal p s (length d) n) s d formed))
 
   -- where none of 2 to 5 applies, a frame is judged
-  pub received-judged : (a : ℕ) (f : List ℕ) (n : ℕ) → refusal p s (length d) n ≡ 0
-      → received p s a f d n ≡ judged p s a f d (verdict (p .bus) (p .longest) (s .running) (s .address) a f)
+  pub received-handled : (a : ℕ) (f : List ℕ) (n : ℕ) → refusal p s (length d) n ≡ 0
+      → received p s a f d n ≡ handled p s a f d (verdict (p .bus) (p .longest) (s .running) (s .address) a f)
   unfolding received
-  received-judged a f n e = rw (eq-eqb _ _ e)
+  received-handled a f n e = rw (eq-eqb _ _ e)
 
   -- else it is refused
   pub received-refused : (a : ℕ) (f : List ℕ) (n : ℕ) → (refusal p s (length d) n ≡ 0 → ⊥) → received p s a f d n ≡ refused (refusal p s (length d) n) s d

@@ -13,7 +13,7 @@ use Rattle.rules.specs.declared.kinds.Bus.the-variants.{I2c, Rs485}
 use Rattle.rules.specs.Profile.{Profile}
 use Rattle.rules.specs.State.{State, Upload}
 use Rattle.rules.specs.Frames.{reply, shortestReply, twoBytes, numberAt}
-use Rattle.rules.specs.Commands.{Response, Says, Silent, Acted, told, setAddress, hardwareInfo, serialNumber, started, accepted, begun, written, finished, readable, shown, performed, obeyed, tabled, lengthAllowed, ok, commandNotSupported, invalidArguments}
+use Rattle.rules.specs.Commands.{Response, Reply, NoReply, Acted, replying, setAddress, hardwareInfo, serialNumber, started, accepted, restarted, written, finished, readable, shown, performed, executed, tabled, lengthAllowed, ok, commandNotSupported, invalidArguments}
 use Rattle.laws.proofs.StateLaws.{ProfileFacts, UploadFacts}
 use Rattle.laws.proofs.CheckSumLaws.{length-sealed}
 use Rattle.laws.proofs.UploadLaws.{by-test, takenAll-kept, finalized-kept}
@@ -29,102 +29,102 @@ shortestReply-le Rs485 = omega arith
 
 -- what a command says fits a frame of M bytes
 abbrev pub Fits : Profile → Response → Type 0
-Fits p (Says status results) = shortestReply (p .bus) + length results ≤ p .longest
-Fits p Silent = Unit
+Fits p (Reply status results) = shortestReply (p .bus) + length results ≤ p .longest
+Fits p NoReply = Unit
 
 -- what a command leaves: a well-formed upload, flash as long as d, a reply that fits
-pub record Sane (p : Profile) (d : List ℕ) (a : Acted) : Type 0 where
+pub record FormedResult (p : Profile) (d : List ℕ) (a : Acted) : Type 0 where
   pub formed : UploadFacts (p .page) (p .size) (a .state .upload)
   pub flash-length : length (a .flash) ≡ length d
   pub fits : Fits p (a .response)
 
 -- a claim on what a command does, command by command: its code, and that its argument length is allowed
 pub record Commands (p : Profile) (s : State) (code : ℕ) (args d : List ℕ) (P : Acted → Type 0) : Type 0 where
-  pub unserved : P (told s d commandNotSupported [])
-  pub wrong-length : P (told s d invalidArguments [])
-  pub version : code ≡ 0x00 → lengthAllowed 0x00 (length args) ≡ true → P (told s d ok (2 ∷ 2 ∷ []))
+  pub unserved : P (replying s d commandNotSupported [])
+  pub wrong-length : P (replying s d invalidArguments [])
+  pub version : code ≡ 0x00 → lengthAllowed 0x00 (length args) ≡ true → P (replying s d ok (2 ∷ 2 ∷ []))
   pub address : code ≡ 0x01 → lengthAllowed 0x01 (length args) ≡ true → P (setAddress p s args d)
-  pub info : code ≡ 0x03 → lengthAllowed 0x03 (length args) ≡ true → P (told s d ok (hardwareInfo p))
+  pub info : code ≡ 0x03 → lengthAllowed 0x03 (length args) ≡ true → P (replying s d ok (hardwareInfo p))
   pub serial : code ≡ 0x04 → lengthAllowed 0x04 (length args) ≡ true → P (serialNumber p s d)
   pub start : code ≡ 0x05 → lengthAllowed 0x05 (length args) ≡ true → P (started s d)
   pub write : code ≡ 0x06 → lengthAllowed 0x06 (length args) ≡ true → P (written p s args d)
   pub finalize : code ≡ 0x07 → lengthAllowed 0x07 (length args) ≡ true → P (finished p s d)
   pub read : code ≡ 0x08 → lengthAllowed 0x08 (length args) ≡ true → P (shown p s args d)
-  pub revision : code ≡ 0x09 → lengthAllowed 0x09 (length args) ≡ true → P (told s d ok (p .actual ∷ []))
-  pub longest : code ≡ 0x0c → lengthAllowed 0x0c (length args) ≡ true → P (told s d ok (twoBytes (p .longest)))
+  pub revision : code ≡ 0x09 → lengthAllowed 0x09 (length args) ≡ true → P (replying s d ok (p .actual ∷ []))
+  pub longest : code ≡ 0x0c → lengthAllowed 0x0c (length args) ≡ true → P (replying s d ok (twoBytes (p .longest)))
 
-pub obeyed-cases : (p : Profile) (s : State) (code : ℕ) (args d : List ℕ) (P : Acted → Type 0) → Commands p s code args d P → P (obeyed p s code args d)
-unfolding obeyed performed tabled
-obeyed-cases p s zero args d P c =
+pub executed-cases : (p : Profile) (s : State) (code : ℕ) (args d : List ℕ) (P : Acted → Type 0) → Commands p s code args d P → P (executed p s code args d)
+unfolding executed performed tabled
+executed-cases p s zero args d P c =
     by-test (lengthAllowed 0x00 (length args)) (λ h. rw h (c .version refl h)) (λ e. rw e (c .wrong-length))
-obeyed-cases p s (suc zero) args d P c =
+executed-cases p s (suc zero) args d P c =
     by-test (lengthAllowed 0x01 (length args)) (λ h. rw h (c .address refl h)) (λ e. rw e (c .wrong-length))
-obeyed-cases p s (suc (suc zero)) args d P c = c .unserved
-obeyed-cases p s (suc (suc (suc zero))) args d P c =
+executed-cases p s (suc (suc zero)) args d P c = c .unserved
+executed-cases p s (suc (suc (suc zero))) args d P c =
     by-test (lengthAllowed 0x03 (length args)) (λ h. rw h (c .info refl h)) (λ e. rw e (c .wrong-length))
-obeyed-cases p s (suc (suc (suc (suc zero)))) args d P c =
+executed-cases p s (suc (suc (suc (suc zero)))) args d P c =
     by-test (lengthAllowed 0x04 (length args)) (λ h. rw h (c .serial refl h)) (λ e. rw e (c .wrong-length))
-obeyed-cases p s (suc (suc (suc (suc (suc zero))))) args d P c =
+executed-cases p s (suc (suc (suc (suc (suc zero))))) args d P c =
     by-test (lengthAllowed 0x05 (length args)) (λ h. rw h (c .start refl h)) (λ e. rw e (c .wrong-length))
-obeyed-cases p s (suc (suc (suc (suc (suc (suc zero)))))) args d P c =
+executed-cases p s (suc (suc (suc (suc (suc (suc zero)))))) args d P c =
     by-test (lengthAllowed 0x06 (length args)) (λ h. rw h (c .write refl h)) (λ e. rw e (c .wrong-length))
-obeyed-cases p s (suc (suc (suc (suc (suc (suc (suc zero))))))) args d P c =
+executed-cases p s (suc (suc (suc (suc (suc (suc (suc zero))))))) args d P c =
     by-test (lengthAllowed 0x07 (length args)) (λ h. rw h (c .finalize refl h)) (λ e. rw e (c .wrong-length))
-obeyed-cases p s (suc (suc (suc (suc (suc (suc (suc (suc zero)))))))) args d P c =
+executed-cases p s (suc (suc (suc (suc (suc (suc (suc (suc zero)))))))) args d P c =
     by-test (lengthAllowed 0x08 (length args)) (λ h. rw h (c .read refl h)) (λ e. rw e (c .wrong-length))
-obeyed-cases p s (suc (suc (suc (suc (suc (suc (suc (suc (suc zero))))))))) args d P c =
+executed-cases p s (suc (suc (suc (suc (suc (suc (suc (suc (suc zero))))))))) args d P c =
     by-test (lengthAllowed 0x09 (length args)) (λ h. rw h (c .revision refl h)) (λ e. rw e (c .wrong-length))
-obeyed-cases p s (suc (suc (suc (suc (suc (suc (suc (suc (suc (suc zero)))))))))) args d P c = c .unserved
-obeyed-cases p s (suc (suc (suc (suc (suc (suc (suc (suc (suc (suc (suc zero))))))))))) args d P c = c .unserved
-obeyed-cases p s (suc (suc (suc (suc (suc (suc (suc (suc (suc (suc (suc (suc zero)))))))))))) args d P c =
+executed-cases p s (suc (suc (suc (suc (suc (suc (suc (suc (suc (suc zero)))))))))) args d P c = c .unserved
+executed-cases p s (suc (suc (suc (suc (suc (suc (suc (suc (suc (suc (suc zero))))))))))) args d P c = c .unserved
+executed-cases p s (suc (suc (suc (suc (suc (suc (suc (suc (suc (suc (suc (suc zero)))))))))))) args d P c =
     by-test (lengthAllowed 0x0c (length args)) (λ h. rw h (c .longest refl h)) (λ e. rw e (c .wrong-length))
-obeyed-cases p s (suc (suc (suc (suc (suc (suc (suc (suc (suc (suc (suc (suc (suc zero))))))))))))) args d P c = c .unserved
-obeyed-cases p s (suc (suc (suc (suc (suc (suc (suc (suc (suc (suc (suc (suc (suc (suc zero)))))))))))))) args d P c = c .unserved
-obeyed-cases p s (suc (suc (suc (suc (suc (suc (suc (suc (suc (suc (suc (suc (suc (suc (suc n))))))))))))))) args d P c = c .unserved
+executed-cases p s (suc (suc (suc (suc (suc (suc (suc (suc (suc (suc (suc (suc (suc zero))))))))))))) args d P c = c .unserved
+executed-cases p s (suc (suc (suc (suc (suc (suc (suc (suc (suc (suc (suc (suc (suc (suc zero)))))))))))))) args d P c = c .unserved
+executed-cases p s (suc (suc (suc (suc (suc (suc (suc (suc (suc (suc (suc (suc (suc (suc (suc n))))))))))))))) args d P c = c .unserved
 
 -- an accepted write goes on, or begins anew, just at its address
-pub next-begun : (S n address : ℕ) (u : Upload) → accepted S (u .next) address n ≡ true → begun address u .next ≡ address
-next-begun S n address u e =
+pub next-restarted : (S n address : ℕ) (u : Upload) → accepted S (u .next) address n ≡ true → restarted address u .next ≡ address
+next-restarted S n address u e =
     let place = and-eq-true-iff (eqb address 0 || eqb address (u .next)) (leb (address + n) S) .0 e .0 in
     by-test (eqb address 0) (λ z. rw z (sym (eqb-true address 0 z))) (λ z. rw z (sym (eqb-true address (u .next) (rw z at place))))
 
-begun-formed : (page S address : ℕ) (u : Upload) → UploadFacts page S u → UploadFacts page S (begun address u)
-begun-formed page S address u formed =
+restarted-formed : (page S address : ℕ) (u : Upload) → UploadFacts page S u → UploadFacts page S (restarted address u)
+restarted-formed page S address u formed =
     by-test (eqb address 0) (λ z. rw z (record { next-most = omega arith; waiting-most = omega arith; count-most = omega arith })) (λ z. rw z formed)
 
 module _ (p : Profile) (facts : ProfileFacts p) (s : State) (formed : UploadFacts (p .page) (p .size) (s .upload)) (d : List ℕ) (room : p .offset + p .size ≤ length d) where
   -- 27 results fit any frame
-  pub told-sane : (status : ℕ) (results : List ℕ) → length results ≤ 27 → Sane p d (told s d status results)
-  told-sane status results h = record { formed = formed; flash-length = refl; fits = omega (arith, shortestReply-le (p .bus), facts .longest-least) }
+  pub replying-formed-result : (status : ℕ) (results : List ℕ) → length results ≤ 27 → FormedResult p d (replying s d status results)
+  replying-formed-result status results h = record { formed = formed; flash-length = refl; fits = omega (arith, shortestReply-le (p .bus), facts .longest-least) }
 
-  setAddress-sane : (args : List ℕ) → Sane p d (setAddress p s args d)
+  setAddress-formed-result : (args : List ℕ) → FormedResult p d (setAddress p s args d)
   unfolding setAddress
-  setAddress-sane args =
+  setAddress-formed-result args =
       by-test (eqb (getD args 1 0) (p .hardware) || eqb (getD args 1 0) 0)
       (λ e. rw e (record { formed = formed; flash-length = refl; fits = omega (arith, shortestReply-le (p .bus), facts .longest-least) }))
       (λ e. rw e (record { formed = formed; flash-length = refl; fits = tt }))
 
-  serialNumber-sane : Sane p d (serialNumber p s d)
-  serialNumber-sane =
-      by-test (eqb (length (p .serial)) 0) (λ e. rw e (told-sane commandNotSupported [] (omega arith)))
-      (λ e. rw e (told-sane ok (p .serial) (omega (arith, facts .serial-most))))
+  serialNumber-formed-result : FormedResult p d (serialNumber p s d)
+  serialNumber-formed-result =
+      by-test (eqb (length (p .serial)) 0) (λ e. rw e (replying-formed-result commandNotSupported [] (omega arith)))
+      (λ e. rw e (replying-formed-result ok (p .serial) (omega (arith, facts .serial-most))))
 
-  started-sane : Sane p d (started s d)
-  started-sane = record {
+  started-formed-result : FormedResult p d (started s d)
+  started-formed-result = record {
     formed = record { next-most = formed .next-most; waiting-most = omega arith; count-most = omega (arith, formed .count-most) };
     flash-length = refl;
     fits = tt;
   }
 
-  finished-sane : Sane p d (finished p s d)
+  finished-formed-result : FormedResult p d (finished p s d)
   unfolding finished
-  finished-sane =
+  finished-formed-result =
       let k = finalized-kept p facts (record { upload = s .upload; flash = d }) room formed in
       record { formed = k .formed; flash-length = k .flash-length; fits = omega (arith, shortestReply-le (p .bus), facts .longest-least) }
 
-  shown-sane : (args : List ℕ) → Sane p d (shown p s args d)
+  shown-formed-result : (args : List ℕ) → FormedResult p d (shown p s args d)
   unfolding shown
-  shown-sane args =
+  shown-formed-result args =
       by-test (readable p (numberAt args 0) (getD args 2 0))
       (λ e.
       let within = and-eq-true-iff (leb (numberAt args 0 + getD args 2 0) (p .size)) (leb (getD args 2 0) (p .longest - shortestReply (p .bus))) .0 e .1 in
@@ -135,35 +135,35 @@ module _ (p : Profile) (facts : ProfileFacts p) (s : State) (formed : UploadFact
         flash-length = refl;
         fits = omega (arith, leb-true (getD args 2 0) (p .longest - shortestReply (p .bus)) within, shortestReply-le (p .bus), facts .longest-least);
       }))
-      (λ e. rw e (told-sane invalidArguments [] (omega arith)))
+      (λ e. rw e (replying-formed-result invalidArguments [] (omega arith)))
 
-  written-sane : (args : List ℕ) → Sane p d (written p s args d)
+  written-formed-result : (args : List ℕ) → FormedResult p d (written p s args d)
   unfolding written
-  written-sane args =
+  written-formed-result args =
       by-test (accepted (p .size) (s .upload .next) (numberAt args 0) (length (drop 2 args)))
       (λ e.
       let end = and-eq-true-iff (eqb (numberAt args 0) 0 || eqb (numberAt args 0) (s .upload .next)) (leb (numberAt args 0 + length (drop 2 args)) (p .size)) .0 e .1 in
       let k =
-      takenAll-kept p facts (record { upload = begun (numberAt args 0) (s .upload); flash = d }) (drop 2 args) room
-      (begun-formed (p .page) (p .size) (numberAt args 0) (s .upload) formed)
-      (omega (arith, next-begun (p .size) (length (drop 2 args)) (numberAt args 0) (s .upload) e, leb-true (numberAt args 0 + length (drop 2 args)) (p .size) end)) in
+      takenAll-kept p facts (record { upload = restarted (numberAt args 0) (s .upload); flash = d }) (drop 2 args) room
+      (restarted-formed (p .page) (p .size) (numberAt args 0) (s .upload) formed)
+      (omega (arith, next-restarted (p .size) (length (drop 2 args)) (numberAt args 0) (s .upload) e, leb-true (numberAt args 0 + length (drop 2 args)) (p .size) end)) in
       rw e (record { formed = k .formed; flash-length = k .flash-length; fits = omega (arith, shortestReply-le (p .bus), facts .longest-least) }))
-      (λ e. rw e (told-sane invalidArguments [] (omega arith)))
+      (λ e. rw e (replying-formed-result invalidArguments [] (omega arith)))
 
-  pub obeyed-sane : (code : ℕ) (args : List ℕ) → Sane p d (obeyed p s code args d)
-  obeyed-sane code args =
-      obeyed-cases p s code args d (Sane p d)
+  pub executed-formed-result : (code : ℕ) (args : List ℕ) → FormedResult p d (executed p s code args d)
+  executed-formed-result code args =
+      executed-cases p s code args d (FormedResult p d)
       (record {
-        unserved = told-sane commandNotSupported [] (omega arith);
-        wrong-length = told-sane invalidArguments [] (omega arith);
-        version = λ e h. told-sane ok (2 ∷ 2 ∷ []) (omega arith);
-        address = λ e h. setAddress-sane args;
-        info = λ e h. told-sane ok (hardwareInfo p) (omega arith);
-        serial = λ e h. serialNumber-sane;
-        start = λ e h. started-sane;
-        write = λ e h. written-sane args;
-        finalize = λ e h. finished-sane;
-        read = λ e h. shown-sane args;
-        revision = λ e h. told-sane ok (p .actual ∷ []) (omega arith);
-        longest = λ e h. told-sane ok (twoBytes (p .longest)) (omega arith);
+        unserved = replying-formed-result commandNotSupported [] (omega arith);
+        wrong-length = replying-formed-result invalidArguments [] (omega arith);
+        version = λ e h. replying-formed-result ok (2 ∷ 2 ∷ []) (omega arith);
+        address = λ e h. setAddress-formed-result args;
+        info = λ e h. replying-formed-result ok (hardwareInfo p) (omega arith);
+        serial = λ e h. serialNumber-formed-result;
+        start = λ e h. started-formed-result;
+        write = λ e h. written-formed-result args;
+        finalize = λ e h. finished-formed-result;
+        read = λ e h. shown-formed-result args;
+        revision = λ e h. replying-formed-result ok (p .actual ∷ []) (omega arith);
+        longest = λ e h. replying-formed-result ok (twoBytes (p .longest)) (omega arith);
       })

@@ -50,8 +50,8 @@ abbrev pub standing : Profile → Progress → Bool
 standing p g = same (take (length (g .upload .waiting)) (drop (placed p (g .upload)) (g .flash))) (g .upload .waiting)
 
 -- an upload with nothing waiting, its count raised by n
-abbrev pub settled : Upload → ℕ → Upload
-settled u n = record { next = u .next; waiting = []; count = u .count + n }
+abbrev pub noneWaiting : Upload → ℕ → Upload
+noneWaiting u n = record { next = u .next; waiting = []; count = u .count + n }
 
 -- what a commit adds to the count
 abbrev pub raise : Bool → ℕ
@@ -59,7 +59,7 @@ raise true = 0
 raise false = 1
 
 -- a commit of nothing
-pub committed-none : (p : Profile) (g : Progress) → g .upload .waiting ≡ [] → committed p g ≡ record { upload = settled (g .upload) 0; flash = g .flash }
+pub committed-none : (p : Profile) (g : Progress) → g .upload .waiting ≡ [] → committed p g ≡ record { upload = noneWaiting (g .upload) 0; flash = g .flash }
 unfolding committed
 committed-none p g e = rw (e, overlay-none, same-self, add-zero)
 
@@ -68,12 +68,12 @@ committed-ways : (p : Profile) (g : Progress) (b : Bool) → standing p g ≡ b 
     → _≡_ {A = Progress}
     (cond b (record { upload = record { next = g .upload .next; waiting = []; count = g .upload .count }; flash = g .flash })
     (record { upload = record { next = g .upload .next; waiting = []; count = suc (g .upload .count) }; flash = overlay (g .flash) (placed p (g .upload)) (g .upload .waiting) }))
-    (record { upload = settled (g .upload) (raise b); flash = overlay (g .flash) (placed p (g .upload)) (g .upload .waiting) })
+    (record { upload = noneWaiting (g .upload) (raise b); flash = overlay (g .flash) (placed p (g .upload)) (g .upload .waiting) })
 committed-ways p g true e fits = rw (add-zero, overlay-same (g .flash) (placed p (g .upload)) (g .upload .waiting) fits e)
 committed-ways p g false e fits = rw add-one
 
 committed-some : (p : Profile) (g : Progress) → Fitting p g → 0 < length (g .upload .waiting)
-    → committed p g ≡ record { upload = settled (g .upload) (raise (standing p g)); flash = overlay (g .flash) (placed p (g .upload)) (g .upload .waiting) }
+    → committed p g ≡ record { upload = noneWaiting (g .upload) (raise (standing p g)); flash = overlay (g .flash) (placed p (g .upload)) (g .upload .waiting) }
 unfolding committed
 committed-some p g f some =
     let u : Upload = g .upload in
@@ -95,11 +95,11 @@ committed-some p g f some =
 
 -- a commit lays the waiting bytes over flash, and counts where that changes it
 pub committed-overlay : (p : Profile) (g : Progress) → Fitting p g
-    → committed p g ≡ record { upload = settled (g .upload) (raise (standing p g)); flash = overlay (g .flash) (placed p (g .upload)) (g .upload .waiting) }
+    → committed p g ≡ record { upload = noneWaiting (g .upload) (raise (standing p g)); flash = overlay (g .flash) (placed p (g .upload)) (g .upload .waiting) }
 committed-overlay p g f = go (g .upload .waiting) refl
   where
     go : (ws : List ℕ) → g .upload .waiting ≡ ws
-        → committed p g ≡ record { upload = settled (g .upload) (raise (standing p g)); flash = overlay (g .flash) (placed p (g .upload)) (g .upload .waiting) }
+        → committed p g ≡ record { upload = noneWaiting (g .upload) (raise (standing p g)); flash = overlay (g .flash) (placed p (g .upload)) (g .upload .waiting) }
     go [] e = committed-none p g e ∙ rw (e, overlay-none, same-self)
     go (b ∷ bs) e = committed-some p g f (rw e (omega arith))
 
@@ -111,14 +111,14 @@ takenAll-append p g [] ys = refl
 takenAll-append p g (x ∷ xs) ys = takenAll-append p (taken p g x) xs ys
 
 -- bytes more, without a commit
-abbrev pub joined : Progress → List ℕ → Progress
-joined g xs = record { upload = record { next = g .upload .next + length xs; waiting = g .upload .waiting ++ xs; count = g .upload .count }; flash = g .flash }
+abbrev pub appended : Progress → List ℕ → Progress
+appended g xs = record { upload = record { next = g .upload .next + length xs; waiting = g .upload .waiting ++ xs; count = g .upload .count }; flash = g .flash }
 
-joined-nil : (g : Progress) → joined g [] ≡ g
-joined-nil g = rw (add-zero, append-nil)
+appended-nil : (g : Progress) → appended g [] ≡ g
+appended-nil g = rw (add-zero, append-nil)
 
-joined-cons : (g : Progress) (x : ℕ) (xs : List ℕ) → joined (joined g (x ∷ [])) xs ≡ joined g (x ∷ xs)
-joined-cons g x xs =
+appended-cons : (g : Progress) (x : ℕ) (xs : List ℕ) → appended (appended g (x ∷ [])) xs ≡ appended g (x ∷ xs)
+appended-cons g x xs =
     let n : g .upload .next + 1 + length xs ≡ g .upload .next + suc (length xs) = omega arith in
     rw (n, append-assoc)
 
@@ -130,31 +130,31 @@ pub suc-mod-end : (page n : ℕ) → n % page + 1 ≡ page → (n + 1) % page �
 suc-mod-end page n h = sym (mod-add-mod n page 1) ∙ ap (λ (m : ℕ). m % page) h ∙ mod-self page
 
 -- one byte that ends no page, and one that ends a page
-taken-below : (p : Profile) (g : Progress) (x : ℕ) → g .upload .next % p .page + 1 < p .page → taken p g x ≡ joined g (x ∷ [])
+taken-below : (p : Profile) (g : Progress) (x : ℕ) → g .upload .next % p .page + 1 < p .page → taken p g x ≡ appended g (x ∷ [])
 unfolding taken
 taken-below p g x h =
     let left : (g .upload .next + 1) % p .page ≡ 0 → ⊥ = λ e. omega (arith, suc-mod-below (p .page) (g .upload .next) h) in
     rw (ne-eqb _ _ left)
 
-taken-end : (p : Profile) (g : Progress) (x : ℕ) → g .upload .next % p .page + 1 ≡ p .page → taken p g x ≡ committed p (joined g (x ∷ []))
+taken-end : (p : Profile) (g : Progress) (x : ℕ) → g .upload .next % p .page + 1 ≡ p .page → taken p g x ≡ committed p (appended g (x ∷ []))
 unfolding taken
 taken-end p g x h = rw (eq-eqb _ _ (suc-mod-end (p .page) (g .upload .next) h))
 
 -- bytes that end no page only join the waiting ones
-pub takenAll-below : (p : Profile) (g : Progress) (xs : List ℕ) → g .upload .next % p .page + length xs < p .page → takenAll p g xs ≡ joined g xs
+pub takenAll-below : (p : Profile) (g : Progress) (xs : List ℕ) → g .upload .next % p .page + length xs < p .page → takenAll p g xs ≡ appended g xs
 unfolding takenAll
-takenAll-below p g [] h = sym (joined-nil g)
+takenAll-below p g [] h = sym (appended-nil g)
 takenAll-below p g (x ∷ xs) h =
     let one : g .upload .next % p .page + 1 < p .page = omega arith in
     rw (taken-below p g x one)
-    (takenAll-below p (joined g (x ∷ [])) xs (omega (arith, suc-mod-below (p .page) (g .upload .next) one)) ∙ joined-cons g x xs)
+    (takenAll-below p (appended g (x ∷ [])) xs (omega (arith, suc-mod-below (p .page) (g .upload .next) one)) ∙ appended-cons g x xs)
 
 -- bytes that reach just the end of a page join the waiting ones, and the page is committed
 pub takenAll-end : (p : Profile) (g : Progress) (x : ℕ) (xs : List ℕ) → g .upload .next % p .page + length (x ∷ xs) ≡ p .page
-    → takenAll p g (x ∷ xs) ≡ committed p (joined g (x ∷ xs))
+    → takenAll p g (x ∷ xs) ≡ committed p (appended g (x ∷ xs))
 unfolding takenAll
 takenAll-end p g x [] h = taken-end p g x (omega arith)
 takenAll-end p g x (y ∷ ys) h =
     let one : g .upload .next % p .page + 1 < p .page = omega arith in
     rw (taken-below p g x one)
-    (takenAll-end p (joined g (x ∷ [])) y ys (omega (arith, suc-mod-below (p .page) (g .upload .next) one)) ∙ ap (committed p) (joined-cons g x (y ∷ ys)))
+    (takenAll-end p (appended g (x ∷ [])) y ys (omega (arith, suc-mod-below (p .page) (g .upload .next) one)) ∙ ap (committed p) (appended-cons g x (y ∷ ys)))

@@ -88,9 +88,9 @@ module _ (p : Profile) (facts : ProfileFacts p) (d : List ℕ) (room : p .offset
     module _ (rest : List ℕ) (within : length (before .upload .waiting ++ rest) ≤ p .page) where
       waiting-page : before .upload .waiting ++ rest ≡ pageOf (p .page) (image ++ rest) (n / p .page)
       waiting-page =
-          let joined : drop (pageStart (p .page) n) (image ++ rest) ≡ before .upload .waiting ++ rest =
+          let appended : drop (pageStart (p .page) n) (image ++ rest) ≡ before .upload .waiting ++ rest =
           drop-append-le (pageStart (p .page) n) image rest (omega (arith, div-add-mod' n (p .page))) ∙ ap (λ (ws : List ℕ). ws ++ rest) (sym (paged .waiting-is)) in
-          sym (ap (take (p .page)) joined ∙ take-all (p .page) (before .upload .waiting ++ rest) within)
+          sym (ap (take (p .page)) appended ∙ take-all (p .page) (before .upload .waiting ++ rest) within)
 
       standing-stood : (u : Upload) → u .waiting ≡ before .upload .waiting ++ rest → u .next ≡ n + length rest
           → standing p (record { upload = u; flash = before .flash }) ≡ stood p d (image ++ rest) (n / p .page)

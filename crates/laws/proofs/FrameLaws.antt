@@ -14,7 +14,7 @@ use Rattle.rules.specs.declared.kinds.Bus.the-variants.{I2c, Rs485}
 use Rattle.rules.specs.declared.kinds.Address.{Address}
 use Rattle.rules.specs.declared.kinds.Verdict.the-variants.{Command}
 use Rattle.rules.specs.CheckSums.{sum, sealed, sumRight}
-use Rattle.rules.specs.Frames.{headerLength, shortestRequest, shortestReply, request, reply, destination, hears, framing, verdict, commandOf, argumentsOf}
+use Rattle.rules.specs.Frames.{headerLength, shortestRequest, shortestReply, request, reply, destination, addressed, framing, verdict, commandOf, argumentsOf}
 use Rattle.rules.specs.Commands.{served}
 use Rattle.rules.specs.Master.{resultsMissing, lengthRight, fromOther, statusOf, countOf, opened, decoded}
 use Rattle.laws.proofs.CommandLaws.{length-reply}
@@ -47,20 +47,20 @@ unfolding request sealed
 destination-request beside to code arguments = refl
 
 -- an address that is heard is not the general call
-pub hears-address : (bus : Bus) (own : Address) (a : ℕ) → hears bus own a ≡ true → eqb a 0 ≡ false
-unfolding hears
-hears-address bus own a e = not-true (eqb a 0) (and-eq-true-iff (not (eqb a 0)) _ .0 e .0)
+pub addressed-address : (bus : Bus) (own : Address) (a : ℕ) → addressed bus own a ≡ true → eqb a 0 ≡ false
+unfolding addressed
+addressed-address bus own a e = not-true (eqb a 0) (and-eq-true-iff (not (eqb a 0)) _ .0 e .0)
 
 -- a request of at most M bytes to an address that is heard
 pub framing-request : (bus : Bus) (M : ℕ) (own : Address) (beside to code : ℕ) (arguments : List ℕ)
-    → destination bus beside (request bus to code arguments) ≡ to → hears bus own to ≡ true → shortestRequest bus + length arguments ≤ M
+    → destination bus beside (request bus to code arguments) ≡ to → addressed bus own to ≡ true → shortestRequest bus + length arguments ≤ M
     → framing bus M own beside (request bus to code arguments) ≡ Command
 unfolding framing
 framing-request I2c M own beside to code arguments sent heard fits =
     let long = length-request I2c to code arguments in
     rw (
       sent,
-      hears-address I2c own to heard,
+      addressed-address I2c own to heard,
       heard,
       long,
       le-ltb (shortestRequest I2c + length arguments) (shortestRequest I2c) (omega arith),
@@ -75,17 +75,17 @@ framing-request Rs485 M own beside to code arguments sent heard fits =
       le-ltb M (shortestRequest Rs485 + length arguments) fits,
       sumRight-request Rs485 to code arguments,
       sent,
-      hears-address Rs485 own to heard,
+      addressed-address Rs485 own to heard,
       heard,
     )
 
 -- to a board that is not running
 pub verdict-request : (bus : Bus) (M : ℕ) (own : Address) (beside to code : ℕ) (arguments : List ℕ)
-    → destination bus beside (request bus to code arguments) ≡ to → hears bus own to ≡ true → shortestRequest bus + length arguments ≤ M
+    → destination bus beside (request bus to code arguments) ≡ to → addressed bus own to ≡ true → shortestRequest bus + length arguments ≤ M
     → verdict bus M false own beside (request bus to code arguments) ≡ Command
 unfolding verdict
 verdict-request bus M own beside to code arguments sent heard fits =
-    rw (sent, hears-address bus own to heard) (framing-request bus M own beside to code arguments sent heard fits)
+    rw (sent, addressed-address bus own to heard) (framing-request bus M own beside to code arguments sent heard fits)
 
 -- replies: what the decoder finds in one that is whole, with bytes after it or none
 

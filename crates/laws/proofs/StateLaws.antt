@@ -172,7 +172,7 @@ fresh-wellFormed p =
 -- the numbers 2 to 5
 
 -- what holds where none of them applies
-pub record Sound (p : Profile) (s : State) (flashLength bufferLength : ℕ) : Type 0 where
+pub record Unrefused (p : Profile) (s : State) (flashLength bufferLength : ℕ) : Type 0 where
   pub in-range : inRange p ≡ true
   pub well-formed : wellFormed p s ≡ true
   pub flash-holds : p .offset + p .size ≤ flashLength
@@ -184,9 +184,9 @@ cond-zero : (b : Bool) (k x : ℕ) → 0 < k → cond b k x ≡ 0 → (b ≡ fal
 cond-zero true k x h e = absurd (omega arith)
 cond-zero false k x h e = (refl, e)
 
-pub refusal-sound : (p : Profile) (s : State) (n m : ℕ) → refusal p s n m ≡ 0 → Sound p s n m
+pub refusal-unrefused : (p : Profile) (s : State) (n m : ℕ) → refusal p s n m ≡ 0 → Unrefused p s n m
 unfolding refusal
-refusal-sound p s n m e =
+refusal-unrefused p s n m e =
     let two = cond-zero (not (inRange p)) 2 _ (omega arith) e in
     let three = cond-zero (flashShort p n) 3 _ (omega arith) (two .1) in
     let four = cond-zero (not (wellFormed p s)) 4 _ (omega arith) (three .1) in
@@ -202,7 +202,7 @@ refusal-sound p s n m e =
       state = wellFormed-facts p s formed;
     }
 
-pub sound-refusal : (p : Profile) (s : State) (n m : ℕ) → inRange p ≡ true → wellFormed p s ≡ true → p .offset + p .size ≤ n → p .longest ≤ m
+pub unrefused-refusal : (p : Profile) (s : State) (n m : ℕ) → inRange p ≡ true → wellFormed p s ≡ true → p .offset + p .size ≤ n → p .longest ≤ m
     → refusal p s n m ≡ 0
 unfolding refusal
-sound-refusal p s n m range formed flash buffer = rw (range, le-ltb _ _ flash, formed, le-ltb _ _ buffer)
+unrefused-refusal p s n m range formed flash buffer = rw (range, le-ltb _ _ flash, formed, le-ltb _ _ buffer)

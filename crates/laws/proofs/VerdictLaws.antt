@@ -12,13 +12,13 @@ use Rattle.rules.specs.declared.kinds.Address.{Address}
 use Rattle.rules.specs.declared.kinds.Verdict.{Verdict}
 use Rattle.rules.specs.declared.kinds.Verdict.the-variants.{Reset, Running, ResetAddress, Short, Long, WrongSum, Foreign, OtherGeneral, BadTransfer, BadSum, Command}
 use Rattle.rules.specs.CheckSums.{sumRight}
-use Rattle.rules.specs.Frames.{shortestRequest, resetFrame, resetAddressFrame, destination, hears, framing, isGeneral, verdict}
+use Rattle.rules.specs.Frames.{shortestRequest, resetFrame, resetAddressFrame, destination, addressed, framing, isGeneral, verdict}
 use Rattle.laws.proofs.UploadLaws.{by-test}
 
 -- a well-framed command to this board
 pub record Framed (bus : Bus) (M : ℕ) (own : Address) (a : ℕ) (f : List ℕ) : Type 0 where
-  pub addressed : eqb (destination bus a f) 0 ≡ false
-  pub heard : hears bus own (destination bus a f) ≡ true
+  pub not-general : eqb (destination bus a f) 0 ≡ false
+  pub heard : addressed bus own (destination bus a f) ≡ true
   pub length-least : shortestRequest bus ≤ length f
   pub length-most : length f ≤ M
   pub sum-right : sumRight bus f ≡ true
@@ -42,15 +42,15 @@ pub framing-cases : (bus : Bus) (M : ℕ) (own : Address) (a : ℕ) (f : List �
 unfolding framing
 framing-cases I2c M own a f P c =
     by-test (eqb a 0) (λ e. rw e (c .other-general))
-    (λ addressed. rw addressed
-    (by-test (hears I2c own a)
+    (λ not-general. rw not-general
+    (by-test (addressed I2c own a)
     (λ heard. rw heard
     (by-test (ltb (length f) (shortestRequest I2c) || ltb M (length f)) (λ e. rw e (c .bad-transfer refl))
     (λ sized. rw sized
     (by-test (sumRight I2c f)
     (λ sum. rw sum
     (let size = ||-false (ltb (length f) (shortestRequest I2c)) (ltb M (length f)) sized in
-    c .command (record { addressed = addressed; heard = heard; length-least = ltb-false _ _ (size .0); length-most = ltb-false _ _ (size .1); sum-right = sum })))
+    c .command (record { not-general = not-general; heard = heard; length-least = ltb-false _ _ (size .0); length-most = ltb-false _ _ (size .1); sum-right = sum })))
     (λ e. rw e (c .bad-sum refl))))))
     (λ e. rw e (c .foreign))))
 framing-cases Rs485 M own a f P c =
@@ -61,10 +61,10 @@ framing-cases Rs485 M own a f P c =
     (by-test (sumRight Rs485 f)
     (λ sum. rw sum
     (by-test (eqb (getD f 0 0) 0) (λ e. rw e (c .other-general))
-    (λ addressed. rw addressed
-    (by-test (hears Rs485 own (getD f 0 0))
+    (λ not-general. rw not-general
+    (by-test (addressed Rs485 own (getD f 0 0))
     (λ heard. rw heard
-    (c .command (record { addressed = addressed; heard = heard; length-least = ltb-false _ _ least; length-most = ltb-false _ _ most; sum-right = sum })))
+    (c .command (record { not-general = not-general; heard = heard; length-least = ltb-false _ _ least; length-most = ltb-false _ _ most; sum-right = sum })))
     (λ e. rw e (c .foreign))))))
     (λ e. rw e (c .wrong-sum refl))))))
 

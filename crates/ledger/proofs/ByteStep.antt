@@ -12,17 +12,17 @@ use lib.Seq.{drop-length, drop-append-le}
 use borrow.Author.Tests.{eqb-true, eqb-false, ltb-false, ltb-true, eq-eqb, ne-eqb}
 use Rattle.rules.specs.Profile.{Profile}
 use Rattle.rules.specs.Commit.{Progress, committed, taken, takenAll, finalized}
-use Rattle.laws.proofs.CommitLaws.{joined}
+use Rattle.laws.proofs.CommitLaws.{appended}
 use Rattle.laws.proofs.UploadLaws.{suc-mod-inner}
 use Rattle.ledger.specs.Ledger.{Ledger, commits, joins, joinsAll, finalizes}
 use Rattle.ledger.proofs.LedgerLaws.{rest}
 use Rattle.ledger.proofs.PageLaws.{page-ends, mod-add-sub}
-use Rattle.ledger.proofs.Balance.{Balanced, commits-balanced, more, length-more, more-balanced, more-due, filed}
+use Rattle.ledger.proofs.Consistency.{Consistent, commits-consistent, more, length-more, more-consistent, more-due, finalCounted}
 use Rattle.ledger.proofs.CommitStep.{Agrees, Paged, Within, commit-agrees}
 
 -- a ledger in the middle of a write, with n bytes to come
 pub record Going (p : Profile) (k : Ledger) (n : ℕ) : Type 0 where
-  pub balanced : Balanced p k
+  pub balanced : Consistent p k
   pub in-page : length (rest k) ≤ length (k .accepted) % p .page
   pub fits : length (k .accepted) + n ≤ p .size
   pub room : p .offset + p .size ≤ length (k .earlier)
@@ -60,7 +60,7 @@ module _ (p : Profile) (pages : Paged p) where
       let long = length-more k b in
       let room : p .offset + length (k .accepted) + 1 ≤ length (k .copy) = omega (arith, g .fits, g .room, g .balanced .as-long) in
       record {
-        balanced = commits-balanced p (more k b) (more-balanced p k b (pages .page-pos) (g .balanced)) (more-due p k b (pages .page-pos) (g .balanced) room end);
+        balanced = commits-consistent p (more k b) (more-consistent p k b (pages .page-pos) (g .balanced)) (more-due p k b (pages .page-pos) (g .balanced) room end);
         in-page = rw (drop-length (more k b .accepted)) (omega arith);
         fits = omega (arith, g .fits);
         room = g .room;
@@ -72,7 +72,7 @@ module _ (p : Profile) (pages : Paged p) where
       let below = suc-mod-inner (p .page) (length (k .accepted)) (pages .page-pos) on in
       let part : length (k .accepted) - k .committed ≤ length (k .accepted) % p .page = rw (← length-drop) (g .in-page) in
       record {
-        balanced = more-balanced p k b (pages .page-pos) (g .balanced);
+        balanced = more-consistent p k b (pages .page-pos) (g .balanced);
         in-page = rw (length-drop, long, below) (omega arith);
         fits = omega (arith, g .fits);
         room = g .room;
@@ -88,7 +88,7 @@ module _ (p : Profile) (pages : Paged p) where
 
   -- and the board with it
 
-  more-agrees : (g : Progress) (k : Ledger) (b : ℕ) → k .committed ≤ length (k .accepted) → Agrees g k → Agrees (joined g (b ∷ [])) (more k b)
+  more-agrees : (g : Progress) (k : Ledger) (b : ℕ) → k .committed ≤ length (k .accepted) → Agrees g k → Agrees (appended g (b ∷ [])) (more k b)
   more-agrees g k b le a = record {
     flash-is = a .flash-is;
     count-is = a .count-is;
@@ -100,14 +100,14 @@ module _ (p : Profile) (pages : Paged p) where
   unfolding joins taken
   joins-agrees g k b n j a = rw (length-more k b, ← a .next-is) (go (eqb ((g .upload .next + 1) % p .page) 0) refl)
     where
-      next : Agrees (joined g (b ∷ [])) (more k b)
+      next : Agrees (appended g (b ∷ [])) (more k b)
       next = more-agrees g k b (j .balanced .committed-le) a
 
       go : (t : Bool) → eqb ((g .upload .next + 1) % p .page) 0 ≡ t
-          → Agrees (cond t (committed p (joined g (b ∷ []))) (joined g (b ∷ []))) (cond t (commits p (more k b)) (more k b))
+          → Agrees (cond t (committed p (appended g (b ∷ []))) (appended g (b ∷ []))) (cond t (commits p (more k b)) (more k b))
       go true e =
           let end : (length (k .accepted) + 1) % p .page ≡ 0 = rw (← a .next-is) (eqb-true _ _ e) in
-          commit-agrees p (joined g (b ∷ [])) (more k b) pages (more-within k b n j end) next
+          commit-agrees p (appended g (b ∷ [])) (more k b) pages (more-within k b n j end) next
       go false e = next
 
   -- all bytes of a write
@@ -131,19 +131,19 @@ module _ (p : Profile) (pages : Paged p) where
       let none : g .upload .waiting ≡ [] = a .waiting-is ∙ drop-of-length-le (k .accepted) h in
       rw (eq-eqb (length (g .upload .waiting)) 0 (ap length none)) a
 
-  filed-agrees : (g : Progress) (k : Ledger) → Within p k → k .committed < length (k .accepted) → Agrees g k → Agrees (finalized p g) (commits p (filed k))
+  finalCounted-agrees : (g : Progress) (k : Ledger) → Within p k → k .committed < length (k .accepted) → Agrees g k → Agrees (finalized p g) (commits p (finalCounted k))
   unfolding finalized
-  filed-agrees g k w some a =
+  finalCounted-agrees g k w some a =
       let held : length (g .upload .waiting) ≡ 0 → ⊥ = λ e. omega (arith, ap length (a .waiting-is), length-drop (k .committed) (k .accepted)) in
-      let w′ : Within p (filed k) = record { room = w .room; accepted-le = w .accepted-le; committed-le = w .committed-le; in-page = w .in-page } in
-      let a′ : Agrees g (filed k) = record { flash-is = a .flash-is; count-is = a .count-is; next-is = a .next-is; waiting-is = a .waiting-is } in
-      rw (ne-eqb _ _ held) (commit-agrees p g (filed k) pages w′ a′)
+      let w′ : Within p (finalCounted k) = record { room = w .room; accepted-le = w .accepted-le; committed-le = w .committed-le; in-page = w .in-page } in
+      let a′ : Agrees g (finalCounted k) = record { flash-is = a .flash-is; count-is = a .count-is; next-is = a .next-is; waiting-is = a .waiting-is } in
+      rw (ne-eqb _ _ held) (commit-agrees p g (finalCounted k) pages w′ a′)
 
   -- both finalize in step
   pub finalizes-agrees : (g : Progress) (k : Ledger) → Going p k 0 → Agrees g k → Agrees (finalized p g) (finalizes p k)
   unfolding finalizes
   finalizes-agrees g k j a = go (ltb (k .committed) (length (k .accepted))) refl
     where
-      go : (t : Bool) → ltb (k .committed) (length (k .accepted)) ≡ t → Agrees (finalized p g) (cond t (commits p (filed k)) k)
-      go true e = filed-agrees g k (going-within k 0 j) (ltb-true _ _ e) a
+      go : (t : Bool) → ltb (k .committed) (length (k .accepted)) ≡ t → Agrees (finalized p g) (cond t (commits p (finalCounted k)) k)
+      go true e = finalCounted-agrees g k (going-within k 0 j) (ltb-true _ _ e) a
       go false e = idle-agrees g k (ltb-false _ _ e) a

@@ -15,50 +15,50 @@ use Rattle.rules.specs.State.{State, wellFormed}
 use Rattle.rules.specs.Numbers.{refusal, flashShort, bufferShort}
 use Rattle.rules.specs.Frames.{destination, framing, verdict}
 use Rattle.rules.specs.Commands.{invalidTransfer, invalidCrc}
-use Rattle.rules.specs.Board.{nothing, addressReset, judged, received, readOut, readAnswered}
+use Rattle.rules.specs.Board.{nothing, addressReset, handled, received, readOut, readAnswered}
 use Rattle.laws.proofs.BoardLaws.{refusal-least}
-use Rattle.laws.proofs.StateLaws.{Sound, refusal-sound}
+use Rattle.laws.proofs.StateLaws.{Unrefused, refusal-unrefused}
 use Rattle.laws.proofs.UploadLaws.{by-test}
 use Rattle.laws.proofs.VerdictLaws.{framing-cases, verdict-cases}
 use Rattle.ledger.specs.Ledger.{Ledger, resetForm}
 use Rattle.ledger.proofs.FrameReading.{reset-form}
-use Rattle.ledger.proofs.Kept.{Keeps, keeps-other, Entered, refused-quiet, nothing-quiet, reset-enters, error-quiet}
-use Rattle.ledger.proofs.UploadStep.{Heard, sound-heard, heard-keeps}
-use Rattle.ledger.proofs.CommandStep.{obeyed-enters}
+use Rattle.ledger.proofs.Kept.{Keeps, keeps-other, Entered, refused-no-entry, nothing-no-entry, reset-enters, error-no-entry}
+use Rattle.ledger.proofs.UploadStep.{Serving, unrefused-serving, serving-keeps}
+use Rattle.ledger.proofs.CommandStep.{executed-enters}
 
 -- a frame by its verdict
 
 module _ (p : Profile) (s : State) (d : List ℕ) (k : Ledger) (a : ℕ) (f : List ℕ) where
-  abbrev Judges : Verdict → Type 0
-  Judges v = Entered p k a f (judged p s a f d v)
+  abbrev Handles : Verdict → Type 0
+  Handles v = Entered p k a f (handled p s a f d v)
 
-  framing-judges : Heard p s d k → resetForm (p .bus) a f ≡ false → Judges (framing (p .bus) (p .longest) (s .address) a f)
-  unfolding judged
-  framing-judges h form =
-      let kept = heard-keeps p s d k h in
-      let dropped : Entered p k a f (nothing s d) = nothing-quiet p k a f s d form kept in
-      framing-cases (p .bus) (p .longest) (s .address) a f Judges
+  framing-handles : Serving p s d k → resetForm (p .bus) a f ≡ false → Handles (framing (p .bus) (p .longest) (s .address) a f)
+  unfolding handled
+  framing-handles h form =
+      let kept = serving-keeps p s d k h in
+      let dropped : Entered p k a f (nothing s d) = nothing-no-entry p k a f s d form kept in
+      framing-cases (p .bus) (p .longest) (s .address) a f Handles
       (record {
         short = λ rs485. dropped;
         long = λ rs485. dropped;
         wrong-sum = λ rs485. dropped;
         foreign = dropped;
         other-general = dropped;
-        bad-transfer = λ i2c. error-quiet p k a f (destination (p .bus) a f) invalidTransfer [] s d refl kept;
-        bad-sum = λ i2c. error-quiet p k a f (destination (p .bus) a f) invalidCrc [] s d refl kept;
-        command = λ framed. obeyed-enters p s d k a f (destination (p .bus) a f) h form;
+        bad-transfer = λ i2c. error-no-entry p k a f (destination (p .bus) a f) invalidTransfer [] s d refl kept;
+        bad-sum = λ i2c. error-no-entry p k a f (destination (p .bus) a f) invalidCrc [] s d refl kept;
+        command = λ framed. executed-enters p s d k a f (destination (p .bus) a f) h form;
       })
 
-  verdict-judges : (m : ℕ) → Sound p s (length d) m → Keeps p s d k → Judges (verdict (p .bus) (p .longest) (s .running) (s .address) a f)
-  unfolding judged
-  verdict-judges m sound i =
+  verdict-handles : (m : ℕ) → Unrefused p s (length d) m → Keeps p s d k → Handles (verdict (p .bus) (p .longest) (s .running) (s .address) a f)
+  unfolding handled
+  verdict-handles m sound i =
       let form = reset-form (p .bus) a f in
-      verdict-cases (p .bus) (p .longest) (s .running) (s .address) a f Judges
+      verdict-cases (p .bus) (p .longest) (s .running) (s .address) a f Handles
       (record {
         reset = λ e. reset-enters p k a f s d (form ∙ e) i;
-        run = λ other on. nothing-quiet p k a f s d (form ∙ other) i;
-        reset-address = λ other off e. nothing-quiet p k a f (addressReset s) d (form ∙ other) (keeps-other p s d k DefaultRange [] i);
-        framed = λ other off e. framing-judges (sound-heard p s d k m sound off i) (form ∙ other);
+        run = λ other on. nothing-no-entry p k a f s d (form ∙ other) i;
+        reset-address = λ other off e. nothing-no-entry p k a f (addressReset s) d (form ∙ other) (keeps-other p s d k DefaultRange [] i);
+        framed = λ other off e. framing-handles (unrefused-serving p s d k m sound off i) (form ∙ other);
       })
 
 -- a received frame
@@ -67,8 +67,8 @@ pub received-enters : (p : Profile) (s : State) (d : List ℕ) (k : Ledger) (a :
 unfolding received
 received-enters p s d k a f m i =
     by-test (eqb (refusal p s (length d) m) 0)
-    (λ e. rw e (verdict-judges p s d k a f m (refusal-sound p s (length d) m (eqb-true _ _ e)) i))
-    (λ e. rw e (refused-quiet p k a f (refusal p s (length d) m) s d (refusal-least p s (length d) m e) i))
+    (λ e. rw e (verdict-handles p s d k a f m (refusal-unrefused p s (length d) m (eqb-true _ _ e)) i))
+    (λ e. rw e (refused-no-entry p k a f (refusal p s (length d) m) s d (refusal-least p s (length d) m e) i))
 
 -- an I²C read
 pub readOut-keeps : (p : Profile) (s : State) (d : List ℕ) (k : Ledger) (a m : ℕ) → Keeps p s d k

@@ -11,37 +11,37 @@ use Rattle.rules.specs.declared.kinds.Address.the-variants.{Own}
 use Rattle.rules.specs.Profile.{Profile}
 use Rattle.rules.specs.State.{State}
 use Rattle.rules.specs.Frames.{twoBytes, numberAt, commandOf, argumentsOf}
-use Rattle.rules.specs.Commands.{Acted, told, obeyed, setAddress, serialNumber, started, shown, lengthAllowed, tabled, addressTaken, hardwareInfo, readable, commandNotSupported, invalidArguments, ok}
+use Rattle.rules.specs.Commands.{Acted, replying, executed, setAddress, serialNumber, started, shown, lengthAllowed, tabled, addressTaken, hardwareInfo, readable, commandNotSupported, invalidArguments, ok}
 use Rattle.rules.specs.Board.{finishedCall}
 use Rattle.laws.proofs.UploadLaws.{by-test}
-use Rattle.laws.proofs.CommandLaws.{obeyed-cases}
+use Rattle.laws.proofs.CommandLaws.{executed-cases}
 use Rattle.ledger.specs.Ledger.{Ledger, resetForm}
-use Rattle.ledger.proofs.Kept.{Keeps, keeps-other, Entered, error-quiet, other-quiet, silent-quiet}
-use Rattle.ledger.proofs.UploadStep.{Heard, heard-keeps, finished-enters, written-enters}
+use Rattle.ledger.proofs.Kept.{Keeps, keeps-other, Entered, error-no-entry, other-no-entry, no-reply-no-entry}
+use Rattle.ledger.proofs.UploadStep.{Serving, serving-keeps, finished-enters, written-enters}
 
 -- a write has at least its address
 write-long : (n : ℕ) → lengthAllowed 0x06 n ≡ true → 2 ≤ n
 unfolding tabled
 write-long n h = leb-true 2 n (and-eq-true-iff (leb 2 n) (leb n 254) .0 h .0)
 
-module _ (p : Profile) (s : State) (d : List ℕ) (k : Ledger) (a : ℕ) (f : List ℕ) (to : ℕ) (h : Heard p s d k) (form : resetForm (p .bus) a f ≡ false) where
+module _ (p : Profile) (s : State) (d : List ℕ) (k : Ledger) (a : ℕ) (f : List ℕ) (to : ℕ) (h : Serving p s d k) (form : resetForm (p .bus) a f ≡ false) where
   abbrev Enters : Acted → Type 0
   Enters act = Entered p k a f (finishedCall (p .bus) to act)
 
   kept : Keeps p s d k
-  kept = heard-keeps p s d k h
+  kept = serving-keeps p s d k h
 
   -- a reply to another command than write and finalize
-  tells : (c status : ℕ) (results : List ℕ) → commandOf (p .bus) f ≡ c → eqb c 0x06 ≡ false → eqb c 0x07 ≡ false → Enters (told s d status results)
-  tells c status results e w z = other-quiet p k a f to status results s d (rw e w) (rw e z) kept
+  tells : (c status : ℕ) (results : List ℕ) → commandOf (p .bus) f ≡ c → eqb c 0x06 ≡ false → eqb c 0x07 ≡ false → Enters (replying s d status results)
+  tells c status results e w z = other-no-entry p k a f to status results s d (rw e w) (rw e z) kept
 
   setAddress-enters : (args : List ℕ) → commandOf (p .bus) f ≡ 0x01 → Enters (setAddress p s args d)
   unfolding setAddress
   setAddress-enters args e =
       by-test (eqb (getD args 1 0) (p .hardware) || eqb (getD args 1 0) 0)
       (λ own. rw own
-      (other-quiet p k a f to ok [] _ d (rw e) (rw e) (keeps-other p s d k (Own (addressTaken (p .bus) (getD args 0 0))) (s .last) kept)))
-      (λ foreign. rw foreign (silent-quiet p k a f to s d form kept))
+      (other-no-entry p k a f to ok [] _ d (rw e) (rw e) (keeps-other p s d k (Own (addressTaken (p .bus) (getD args 0 0))) (s .last) kept)))
+      (λ foreign. rw foreign (no-reply-no-entry p k a f to s d form kept))
 
   serial-enters : commandOf (p .bus) f ≡ 0x04 → Enters (serialNumber p s d)
   serial-enters e =
@@ -51,7 +51,7 @@ module _ (p : Profile) (s : State) (d : List ℕ) (k : Ledger) (a : ℕ) (f : Li
 
   started-enters : Enters (started s d)
   started-enters =
-      silent-quiet p k a f to (started s d .state) d form
+      no-reply-no-entry p k a f to (started s d .state) d form
       (record {
         balanced = kept .balanced;
         flash-is = kept .flash-is;
@@ -67,12 +67,12 @@ module _ (p : Profile) (s : State) (d : List ℕ) (k : Ledger) (a : ℕ) (f : Li
       (λ may. rw may (tells 0x08 ok _ e refl refl))
       (λ may-not. rw may-not (tells 0x08 invalidArguments [] e refl refl))
 
-  pub obeyed-enters : Enters (obeyed p s (commandOf (p .bus) f) (argumentsOf (p .bus) f) d)
-  obeyed-enters =
-      obeyed-cases p s (commandOf (p .bus) f) (argumentsOf (p .bus) f) d Enters
+  pub executed-enters : Enters (executed p s (commandOf (p .bus) f) (argumentsOf (p .bus) f) d)
+  executed-enters =
+      executed-cases p s (commandOf (p .bus) f) (argumentsOf (p .bus) f) d Enters
       (record {
-        unserved = error-quiet p k a f to commandNotSupported [] s d refl kept;
-        wrong-length = error-quiet p k a f to invalidArguments [] s d refl kept;
+        unserved = error-no-entry p k a f to commandNotSupported [] s d refl kept;
+        wrong-length = error-no-entry p k a f to invalidArguments [] s d refl kept;
         version = λ e long. tells 0x00 ok (2 ∷ 2 ∷ []) e refl refl;
         address = λ e long. setAddress-enters (argumentsOf (p .bus) f) e;
         info = λ e long. tells 0x03 ok (hardwareInfo p) e refl refl;

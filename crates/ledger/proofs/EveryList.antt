@@ -10,26 +10,26 @@ use Rattle.rules.specs.State.{State, fresh}
 use Rattle.ledger.specs.Ledger.{Ledger, opened, replyCount}
 use Rattle.ledger.specs.Calls.{Call, Frame, Read, Step, calls, ruled, fed, stepped, trace}
 use Rattle.ledger.specs.Claim.{finalizeStep, AcceptedAgain, Finished, Right, Every, Demand3}
-use Rattle.ledger.proofs.Balance.{Balanced, Settled}
+use Rattle.ledger.proofs.Consistency.{Consistent, AfterFinalize}
 use Rattle.ledger.proofs.Kept.{Keeps, fresh-keeps, Closed}
 use Rattle.ledger.proofs.CallStep.{received-enters, readOut-keeps}
-use Rattle.ledger.proofs.Finish.{overlay-inside, overlay-outside, take-overlay, settled-copy}
+use Rattle.ledger.proofs.Finish.{overlay-inside, overlay-outside, take-overlay, after-finalize-copy}
 use Rattle.ledger.proofs.Repeat.{Has}
 use Rattle.ledger.proofs.Again.{Chained, ends, again-zero}
 
 -- what is claimed of a step, and what `Again` asks of a finalize
 record Good (p : Profile) (s : Step) : Type 0 where
   right : Right p s
-  balanced : Balanced p (s .ledger)
-  settled : finalizeStep p s ≡ true → Settled p (s .ledger)
+  balanced : Consistent p (s .ledger)
+  after-finalize : finalizeStep p s ≡ true → AfterFinalize p (s .ledger)
 
 -- an answered finalize
-closed-finished : (p : Profile) (s : Step) → s .flash ≡ s .ledger .copy → Balanced p (s .ledger) → Closed p (s .ledger) (s .reply) → Finished p s
+closed-finished : (p : Profile) (s : Step) → s .flash ≡ s .ledger .copy → Consistent p (s .ledger) → Closed p (s .ledger) (s .reply) → Finished p s
 closed-finished p s flash b c =
-    let copy = flash ∙ settled-copy p (s .ledger) b (c .settled) in
-    let room = c .settled .room in
+    let copy = flash ∙ after-finalize-copy p (s .ledger) b (c .after-finalize) in
+    let room = c .after-finalize .room in
     record {
-      reply-count = c .count-told;
+      reply-count = c .count-replied;
       bytes-stand = λ i h. rw copy (overlay-inside (s .ledger .earlier) (p .offset) (s .ledger .accepted) room i h);
       others-kept = λ i h. rw copy (overlay-outside (s .ledger .earlier) (p .offset) (s .ledger .accepted) room i h);
       length-kept = rw flash (sym (b .as-long));
@@ -46,7 +46,7 @@ keeps-good p x s i count closes = record {
     finished = λ e. closed-finished p s (i .flash-is) (i .balanced) (closes e);
   };
   balanced = i .balanced;
-  settled = λ e. closes e .settled;
+  after-finalize = λ e. closes e .after-finalize;
 }
 
 -- one call
@@ -91,10 +91,10 @@ chained-front p k [] ss chain = tt
 chained-front p k (s ∷ between) ss chain = (chain .0, chained-front p (s .ledger) between ss (chain .1))
 
 -- after a finalize the copy has the accepted bytes
-settled-has : (p : Profile) (k : Ledger) → Balanced p k → Settled p k → Has p (k .copy) (k .accepted)
-settled-has p k b s = record {
+after-finalize-has : (p : Profile) (k : Ledger) → Consistent p k → AfterFinalize p k → Has p (k .copy) (k .accepted)
+after-finalize-has p k b s = record {
   room = omega (arith, s .room, b .as-long);
-  there = rw (settled-copy p k b s) (take-overlay (k .earlier) (p .offset) (k .accepted) (s .room));
+  there = rw (after-finalize-copy p k b s) (take-overlay (k .earlier) (p .offset) (k .accepted) (s .room));
 }
 
 -- two finalizes, with the bytes of the first accepted again between them
@@ -106,11 +106,11 @@ again-holds p k before between after first second good chain e z again =
     let rest : List Step = between ++ second ∷ after in
     let good′ = every-behind p before (first ∷ rest) (rw (append-assoc before (first ∷ between)) at good) in
     let chain′ = chained-behind p k before (first ∷ rest) (rw (append-assoc before (first ∷ between)) at chain) .1 in
-    let settled = good′ .0 .settled e in
-    let has = settled-has p (first .ledger) (good′ .0 .balanced) settled in
+    let after-finalize = good′ .0 .after-finalize e in
+    let has = after-finalize-has p (first .ledger) (good′ .0 .balanced) after-finalize in
     let link = chained-behind p (first .ledger) between (second ∷ after) chain′ .0 in
     every-behind p between (second ∷ after) (good′ .1) .0 .right .finished z .reply-count
-    ∙ again-zero p (first .ledger) between second has (settled .all-committed) (chained-front p (first .ledger) between (second ∷ after) chain′) again link z
+    ∙ again-zero p (first .ledger) between second has (after-finalize .all-committed) (chained-front p (first .ledger) between (second ∷ after) chain′) again link z
 
 pub demand3 : Demand3 ruled
 demand3 p d cs =

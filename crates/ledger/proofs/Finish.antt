@@ -10,7 +10,7 @@ use lib.Seq.{length-take-le, getD-append-add, getD-take, getD-drop, take-at, dro
 use Rattle.rules.specs.Bytes.{overlay}
 use Rattle.rules.specs.Profile.{Profile}
 use Rattle.ledger.specs.Ledger.{Ledger}
-use Rattle.ledger.proofs.Balance.{Balanced, Settled}
+use Rattle.ledger.proofs.Consistency.{Consistent, AfterFinalize}
 
 -- what stands at a place of an overlay
 module _ (d : List ℕ) (at : ℕ) (bs : List ℕ) (fits : at + length bs ≤ length d) where
@@ -55,5 +55,5 @@ module _ (d : List ℕ) (at : ℕ) (bs : List ℕ) (fits : at + length bs ≤ le
       (take-at bs (drop (at + length bs) d) (length bs) refl)
 
 -- all accepted bytes laid over the earlier copy
-pub settled-copy : (p : Profile) (k : Ledger) → Balanced p k → Settled p k → k .copy ≡ overlay (k .earlier) (p .offset) (k .accepted)
-settled-copy p k b s = b .copy-is ∙ rw (s .all-committed, take-length)
+pub after-finalize-copy : (p : Profile) (k : Ledger) → Consistent p k → AfterFinalize p k → k .copy ≡ overlay (k .earlier) (p .offset) (k .accepted)
+after-finalize-copy p k b s = b .copy-is ∙ rw (s .all-committed, take-length)

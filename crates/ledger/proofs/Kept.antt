@@ -14,23 +14,23 @@ use Rattle.rules.specs.declared.kinds.Address.{Address}
 use Rattle.rules.specs.Profile.{Profile}
 use Rattle.rules.specs.State.{State, fresh}
 use Rattle.rules.specs.Frames.{commandOf}
-use Rattle.rules.specs.Commands.{Says, Silent}
+use Rattle.rules.specs.Commands.{Reply, NoReply}
 use Rattle.rules.specs.Board.{Called, nothing, withLast, replied, refused}
 use Rattle.ledger.specs.Ledger.{Ledger, opened, entered, resetForm, isFinalize, replyCount}
 use Rattle.ledger.proofs.LedgerLaws.{rest}
-use Rattle.ledger.proofs.Balance.{Balanced, opened-balanced, Settled}
+use Rattle.ledger.proofs.Consistency.{Consistent, opened-consistent, AfterFinalize}
 use Rattle.ledger.proofs.FrameReading.{and-false, answered-reply, entered-refused, entered-nothing, entered-reset, entered-reply}
 
 -- the board's state and flash are the ledger's; a running board has lost its waiting bytes, and takes none before a reset
 pub record Keeps (p : Profile) (s : State) (d : List ℕ) (k : Ledger) : Type 0 where
-  pub balanced : Balanced p k
+  pub balanced : Consistent p k
   pub flash-is : d ≡ k .copy
   pub count-is : s .upload .count ≡ k .count
   pub next-is : s .upload .next ≡ length (k .accepted)
   pub waiting-is : s .running ≡ false → s .upload .waiting ≡ rest k
 
 pub fresh-keeps : (p : Profile) (d e : List ℕ) → d ≡ e → Keeps p fresh d (opened e)
-fresh-keeps p d e same = record { balanced = opened-balanced p e; flash-is = same; count-is = refl; next-is = refl; waiting-is = λ off. refl }
+fresh-keeps p d e same = record { balanced = opened-consistent p e; flash-is = same; count-is = refl; next-is = refl; waiting-is = λ off. refl }
 
 -- own address and last reply do not matter
 pub keeps-other : (p : Profile) (s : State) (d : List ℕ) (k : Ledger) (own : Address) (last : List ℕ) → Keeps p s d k
@@ -44,8 +44,8 @@ keeps-last Rs485 p s d k r i = keeps-other p s d k (s .address) [] i
 
 -- what a finalize's reply and the ledger after it have to say
 pub record Closed (p : Profile) (k : Ledger) (r : List ℕ) : Type 0 where
-  pub count-told : replyCount (p .bus) r ≡ k .count
-  pub settled : Settled p k
+  pub count-replied : replyCount (p .bus) r ≡ k .count
+  pub after-finalize : AfterFinalize p k
 
 -- a received frame and its answer, entered
 pub record Entered (p : Profile) (k : Ledger) (a : ℕ) (f : List ℕ) (c : Called) : Type 0 where
@@ -53,20 +53,20 @@ pub record Entered (p : Profile) (k : Ledger) (a : ℕ) (f : List ℕ) (c : Call
   pub closes : isFinalize (p .bus) f (c .number) (c .reply) ≡ true → Closed p (entered p k a f (c .number) (c .reply)) (c .reply)
 
 -- an answer that the ledger makes nothing of
-quiet : (p : Profile) (k : Ledger) (a : ℕ) (f : List ℕ) (c : Called) → entered p k a f (c .number) (c .reply) ≡ k
+no-entry : (p : Profile) (k : Ledger) (a : ℕ) (f : List ℕ) (c : Called) → entered p k a f (c .number) (c .reply) ≡ k
     → isFinalize (p .bus) f (c .number) (c .reply) ≡ false → Keeps p (c .state) (c .flash) k → Entered p k a f c
-quiet p k a f c same none i = record { keeps = rw same i; closes = λ some. absurd (false≢true (sym none ∙ some)) }
+no-entry p k a f c same none i = record { keeps = rw same i; closes = λ some. absurd (false≢true (sym none ∙ some)) }
 
 nothing-final : (bus : Bus) (f : List ℕ) → isFinalize bus f 1 [] ≡ false
 nothing-final bus f = simp and-false
 
 module _ (p : Profile) (k : Ledger) (a : ℕ) (f : List ℕ) where
-  pub refused-quiet : (n : ℕ) (s : State) (d : List ℕ) → 2 ≤ n → Keeps p s d k → Entered p k a f (refused n s d)
-  refused-quiet n s d h i =
-      quiet p k a f (refused n s d) (entered-refused p k a f n [] h) (rw (ne-eqb n 0 (λ e. omega arith)) (simp and-false)) i
+  pub refused-no-entry : (n : ℕ) (s : State) (d : List ℕ) → 2 ≤ n → Keeps p s d k → Entered p k a f (refused n s d)
+  refused-no-entry n s d h i =
+      no-entry p k a f (refused n s d) (entered-refused p k a f n [] h) (rw (ne-eqb n 0 (λ e. omega arith)) (simp and-false)) i
 
-  pub nothing-quiet : (s : State) (d : List ℕ) → resetForm (p .bus) a f ≡ false → Keeps p s d k → Entered p k a f (nothing s d)
-  nothing-quiet s d e i = quiet p k a f (nothing s d) (entered-nothing p k a f [] e) (nothing-final (p .bus) f) i
+  pub nothing-no-entry : (s : State) (d : List ℕ) → resetForm (p .bus) a f ≡ false → Keeps p s d k → Entered p k a f (nothing s d)
+  nothing-no-entry s d e i = no-entry p k a f (nothing s d) (entered-nothing p k a f [] e) (nothing-final (p .bus) f) i
 
   pub reset-enters : (s : State) (d : List ℕ) → resetForm (p .bus) a f ≡ true → Keeps p s d k → Entered p k a f (nothing fresh d)
   reset-enters s d e i = record {
@@ -75,26 +75,26 @@ module _ (p : Profile) (k : Ledger) (a : ℕ) (f : List ℕ) where
   }
 
   -- a reply that says no OK to a write or a finalize
-  reply-quiet : (address status : ℕ) (results : List ℕ) (s : State) (d : List ℕ)
+  reply-no-entry : (address status : ℕ) (results : List ℕ) (s : State) (d : List ℕ)
       → (eqb (commandOf (p .bus) f) 0x06 && eqb status 0) ≡ false → (eqb (commandOf (p .bus) f) 0x07 && eqb status 0) ≡ false
-      → Keeps p s d k → Entered p k a f (replied (p .bus) address (Says status results) s d)
-  reply-quiet address status results s d w z i =
-      quiet p k a f (replied (p .bus) address (Says status results) s d)
+      → Keeps p s d k → Entered p k a f (replied (p .bus) address (Reply status results) s d)
+  reply-no-entry address status results s d w z i =
+      no-entry p k a f (replied (p .bus) address (Reply status results) s d)
       (entered-reply p k a f address status results ∙ rw (w, z))
       (answered-reply (p .bus) 0x07 f address status results ∙ z)
       (keeps-last (p .bus) p s d k _ i)
 
-  pub error-quiet : (address status : ℕ) (results : List ℕ) (s : State) (d : List ℕ) → eqb status 0 ≡ false
-      → Keeps p s d k → Entered p k a f (replied (p .bus) address (Says status results) s d)
-  error-quiet address status results s d e i =
+  pub error-no-entry : (address status : ℕ) (results : List ℕ) (s : State) (d : List ℕ) → eqb status 0 ≡ false
+      → Keeps p s d k → Entered p k a f (replied (p .bus) address (Reply status results) s d)
+  error-no-entry address status results s d e i =
       let none : (code : ℕ) → (eqb (commandOf (p .bus) f) code && eqb status 0) ≡ false = λ code. rw e (and-false (eqb (commandOf (p .bus) f) code)) in
-      reply-quiet address status results s d (none 0x06) (none 0x07) i
+      reply-no-entry address status results s d (none 0x06) (none 0x07) i
 
-  pub other-quiet : (address status : ℕ) (results : List ℕ) (s : State) (d : List ℕ)
+  pub other-no-entry : (address status : ℕ) (results : List ℕ) (s : State) (d : List ℕ)
       → eqb (commandOf (p .bus) f) 0x06 ≡ false → eqb (commandOf (p .bus) f) 0x07 ≡ false
-      → Keeps p s d k → Entered p k a f (replied (p .bus) address (Says status results) s d)
-  other-quiet address status results s d w z i = reply-quiet address status results s d (rw w) (rw z) i
+      → Keeps p s d k → Entered p k a f (replied (p .bus) address (Reply status results) s d)
+  other-no-entry address status results s d w z i = reply-no-entry address status results s d (rw w) (rw z) i
 
-  pub silent-quiet : (address : ℕ) (s : State) (d : List ℕ) → resetForm (p .bus) a f ≡ false
-      → Keeps p s d k → Entered p k a f (replied (p .bus) address Silent s d)
-  silent-quiet address s d e i = nothing-quiet (withLast (p .bus) s []) d e (keeps-last (p .bus) p s d k [] i)
+  pub no-reply-no-entry : (address : ℕ) (s : State) (d : List ℕ) → resetForm (p .bus) a f ≡ false
+      → Keeps p s d k → Entered p k a f (replied (p .bus) address NoReply s d)
+  no-reply-no-entry address s d e i = nothing-no-entry (withLast (p .bus) s []) d e (keeps-last (p .bus) p s d k [] i)

@@ -1,6 +1,6 @@
 pub mod LedgerLaws
 pub mod PageLaws
-pub mod Balance
+pub mod Consistency
 pub mod CommitStep
 pub mod ByteStep
 pub mod FrameReading

@@ -12,7 +12,7 @@ use borrow.Author.Tests.{eqb-true, le-ltb}
 use Rattle.rules.specs.Profile.{Profile}
 use Rattle.ledger.specs.Ledger.{Ledger, opened, commits, joins, joinsAll, writes, finalizes}
 use Rattle.ledger.specs.Claim.{Piece, follow, fromZero, joined}
-use Rattle.ledger.proofs.Balance.{more, length-more, finalizes-accepted}
+use Rattle.ledger.proofs.Consistency.{more, length-more, finalizes-accepted}
 use Rattle.ledger.proofs.Repeat.{Has, Repeats, joinsAll-repeats, finalizes-repeats}
 
 -- how many bytes are accepted after some join

@@ -14,7 +14,7 @@ use Rattle.laws.proofs.BytesLaws.{same-self, overlay-same}
 use Rattle.laws.proofs.CommitLaws.{take-drop-take}
 use Rattle.ledger.specs.Ledger.{Ledger, commits, joins, joinsAll, finalizes}
 use Rattle.ledger.proofs.LedgerLaws.{rest, stands, Roomy, rest-room, commits-overlay}
-use Rattle.ledger.proofs.Balance.{more, length-more, filed}
+use Rattle.ledger.proofs.Consistency.{more, length-more, finalCounted}
 
 -- flash D has the bytes bs from O on
 pub record Has (p : Profile) (D bs : List ℕ) : Type 0 where
@@ -83,7 +83,7 @@ module _ (p : Profile) (D bs : List ℕ) (has : Has p D bs) where
   unfolding finalizes
   finalizes-repeats ys k r = go (ltb (k .committed) (length (k .accepted)))
     where
-      go : (t : Bool) → Repeats D bs ys (cond t (commits p (filed k)) k)
+      go : (t : Bool) → Repeats D bs ys (cond t (commits p (finalCounted k)) k)
       go true =
-          commits-repeats ys (filed k) (record { copy-is = r .copy-is; count-is = r .count-is; committed-le = r .committed-le; bytes-are = r .bytes-are })
+          commits-repeats ys (finalCounted k) (record { copy-is = r .copy-is; count-is = r .count-is; committed-le = r .committed-le; bytes-are = r .bytes-are })
       go false = r

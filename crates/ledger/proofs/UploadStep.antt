@@ -12,26 +12,26 @@ use Rattle.rules.specs.Profile.{Profile}
 use Rattle.rules.specs.State.{State, freshUpload}
 use Rattle.rules.specs.Frames.{reply, twoBytes, numberAt, commandOf, argumentsOf}
 use Rattle.rules.specs.Commit.{Progress, takenAll, finalized}
-use Rattle.rules.specs.Commands.{Says, withUpload, accepted, begun, written, finished, invalidArguments, ok}
+use Rattle.rules.specs.Commands.{Reply, withUpload, accepted, restarted, written, finished, invalidArguments, ok}
 use Rattle.rules.specs.Board.{withLast, replied, finishedCall}
-use Rattle.laws.proofs.StateLaws.{Sound}
+use Rattle.laws.proofs.StateLaws.{Unrefused}
 use Rattle.laws.proofs.UploadLaws.{by-test}
 use Rattle.ledger.specs.Ledger.{Ledger, opened, writes, joinsAll, finalizes, entered, writeAddress, writeData}
 use Rattle.ledger.proofs.LedgerLaws.{rest}
-use Rattle.ledger.proofs.Balance.{Balanced, opened-balanced, finalizes-balanced, finalizes-settled}
+use Rattle.ledger.proofs.Consistency.{Consistent, opened-consistent, finalizes-consistent, finalizes-after-finalize}
 use Rattle.ledger.proofs.CommitStep.{Agrees, Paged}
 use Rattle.ledger.proofs.ByteStep.{Going, joinsAll-going, joinsAll-agrees, finalizes-agrees}
 use Rattle.ledger.proofs.FrameReading.{reply-count, answered-reply, write-address, write-data, entered-reply}
-use Rattle.ledger.proofs.Kept.{Keeps, keeps-last, Entered, error-quiet}
+use Rattle.ledger.proofs.Kept.{Keeps, keeps-last, Entered, error-no-entry}
 
 -- a call that is not refused, to a board that is not running
-pub record Heard (p : Profile) (s : State) (d : List ℕ) (k : Ledger) : Type 0 where
+pub record Serving (p : Profile) (s : State) (d : List ℕ) (k : Ledger) : Type 0 where
   pub pages : Paged p
   pub agrees : Agrees (record { upload = s .upload; flash = d }) k
   pub going : Going p k 0
 
-pub sound-heard : (p : Profile) (s : State) (d : List ℕ) (k : Ledger) (m : ℕ) → Sound p s (length d) m → s .running ≡ false → Keeps p s d k → Heard p s d k
-sound-heard p s d k m h off i =
+pub unrefused-serving : (p : Profile) (s : State) (d : List ℕ) (k : Ledger) (m : ℕ) → Unrefused p s (length d) m → s .running ≡ false → Keeps p s d k → Serving p s d k
+unrefused-serving p s d k m h off i =
     let held : length (s .upload .waiting) ≡ length (rest k) = ap length (i .waiting-is off) in
     let page : 0 < p .page = omega (arith, h .profile .page-is) in
     let long : length d ≡ length (k .copy) = ap length (i .flash-is) in
@@ -47,21 +47,21 @@ sound-heard p s d k m h off i =
     }
 
 -- what agrees and balances is kept, whatever else the state holds
-agrees-keeps : (p : Profile) (s : State) (g : Progress) (k : Ledger) → Agrees g k → Balanced p k → Keeps p (withUpload s (g .upload)) (g .flash) k
+agrees-keeps : (p : Profile) (s : State) (g : Progress) (k : Ledger) → Agrees g k → Consistent p k → Keeps p (withUpload s (g .upload)) (g .flash) k
 agrees-keeps p s g k a b =
     record { balanced = b; flash-is = a .flash-is; count-is = a .count-is; next-is = a .next-is; waiting-is = λ off. a .waiting-is }
 
 -- and the other way
-pub heard-keeps : (p : Profile) (s : State) (d : List ℕ) (k : Ledger) → Heard p s d k → Keeps p s d k
-heard-keeps p s d k h = agrees-keeps p s (record { upload = s .upload; flash = d }) k (h .agrees) (h .going .balanced)
+pub serving-keeps : (p : Profile) (s : State) (d : List ℕ) (k : Ledger) → Serving p s d k → Keeps p s d k
+serving-keeps p s d k h = agrees-keeps p s (record { upload = s .upload; flash = d }) k (h .agrees) (h .going .balanced)
 
 -- an upload that agrees with the ledger after a reply, in a state that has the reply for its last
-agrees-replied : (p : Profile) (s : State) (g : Progress) (k k′ : Ledger) (r : List ℕ) → Agrees g k′ → Balanced p k′ → k ≡ k′
+agrees-replied : (p : Profile) (s : State) (g : Progress) (k k′ : Ledger) (r : List ℕ) → Agrees g k′ → Consistent p k′ → k ≡ k′
     → Keeps p (withLast (p .bus) (withUpload s (g .upload)) r) (g .flash) k
 agrees-replied p s g k k′ r a b e = rw e (keeps-last (p .bus) p (withUpload s (g .upload)) (g .flash) k′ r (agrees-keeps p s g k′ a b))
 
 -- finalize
-pub finished-enters : (p : Profile) (s : State) (d : List ℕ) (k : Ledger) (a : ℕ) (f : List ℕ) (address : ℕ) → Heard p s d k → commandOf (p .bus) f ≡ 0x07
+pub finished-enters : (p : Profile) (s : State) (d : List ℕ) (k : Ledger) (a : ℕ) (f : List ℕ) (address : ℕ) → Serving p s d k → commandOf (p .bus) f ≡ 0x07
     → Entered p k a f (finishedCall (p .bus) address (finished p s d))
 unfolding finished
 finished-enters p s d k a f address h code =
@@ -69,29 +69,29 @@ finished-enters p s d k a f address h code =
     let i = h .going in
     let agrees : Agrees g (finalizes p k) = finalizes-agrees p (h .pages) _ k i (h .agrees) in
     let room : p .offset + length (k .accepted) ≤ length (k .earlier) = omega (arith, i .fits, i .room) in
-    let balanced = finalizes-balanced p k (i .balanced) (rw (i .balanced .as-long) at room) in
+    let balanced = finalizes-consistent p k (i .balanced) (rw (i .balanced .as-long) at room) in
     let enters : entered p k a f 0 (reply (p .bus) address ok (twoBytes (g .upload .count))) ≡ finalizes p k =
     entered-reply p k a f address ok (twoBytes (g .upload .count)) ∙ rw code in
     record {
       keeps = agrees-replied p s g _ (finalizes p k) _ agrees balanced enters;
       closes = λ some. rw enters
           (record {
-            count-told = reply-count (p .bus) address ok (g .upload .count) ∙ agrees .count-is;
-            settled = finalizes-settled p k (i .balanced .committed-le) room;
+            count-replied = reply-count (p .bus) address ok (g .upload .count) ∙ agrees .count-is;
+            after-finalize = finalizes-after-finalize p k (i .balanced .committed-le) room;
           });
     }
 
 -- write
 
 -- an accepted write begins anew at 0, and goes on at next
-begins-going : (p : Profile) (s : State) (d : List ℕ) (k : Ledger) (address n : ℕ) → Heard p s d k → accepted (p .size) (s .upload .next) address n ≡ true
+begins-going : (p : Profile) (s : State) (d : List ℕ) (k : Ledger) (address n : ℕ) → Serving p s d k → accepted (p .size) (s .upload .next) address n ≡ true
     → Going p (cond (eqb address 0) (opened (k .copy)) k) n
 begins-going p s d k address n h e = go (eqb address 0) refl e
   where
     go : (t : Bool) → eqb address 0 ≡ t → ((t || eqb address (s .upload .next)) && leb (address + n) (p .size)) ≡ true
         → Going p (cond t (opened (k .copy)) k) n
     go true z e = record {
-      balanced = opened-balanced p (k .copy);
+      balanced = opened-consistent p (k .copy);
       in-page = omega arith;
       fits = omega (arith, eqb-true address 0 z, leb-true (address + n) (p .size) e);
       room = rw (h .going .balanced .as-long) at (h .going .room);
@@ -106,18 +106,18 @@ begins-going p s d k address n h e = go (eqb address 0) refl e
           room = h .going .room;
         }
 
-begins-agrees : (p : Profile) (s : State) (d : List ℕ) (k : Ledger) (address : ℕ) → Heard p s d k
-    → Agrees (record { upload = begun address (s .upload); flash = d }) (cond (eqb address 0) (opened (k .copy)) k)
+begins-agrees : (p : Profile) (s : State) (d : List ℕ) (k : Ledger) (address : ℕ) → Serving p s d k
+    → Agrees (record { upload = restarted address (s .upload); flash = d }) (cond (eqb address 0) (opened (k .copy)) k)
 begins-agrees p s d k address h = go (eqb address 0)
   where
     go : (t : Bool) → Agrees (record { upload = cond t freshUpload (s .upload); flash = d }) (cond t (opened (k .copy)) k)
     go true = record { flash-is = h .agrees .flash-is; count-is = refl; next-is = refl; waiting-is = refl }
     go false = h .agrees
 
-module _ (p : Profile) (s : State) (d : List ℕ) (k : Ledger) (a : ℕ) (f : List ℕ) (to : ℕ) (h : Heard p s d k) (code : commandOf (p .bus) f ≡ 0x06) where
+module _ (p : Profile) (s : State) (d : List ℕ) (k : Ledger) (a : ℕ) (f : List ℕ) (to : ℕ) (h : Serving p s d k) (code : commandOf (p .bus) f ≡ 0x06) where
   accepted-enters : (address : ℕ) (bytes : List ℕ) (g : Progress) → address ≡ writeAddress (p .bus) f → bytes ≡ writeData (p .bus) f
-      → g ≡ takenAll p (record { upload = begun address (s .upload); flash = d }) bytes → accepted (p .size) (s .upload .next) address (length bytes) ≡ true
-      → Entered p k a f (replied (p .bus) to (Says ok []) (withUpload s (g .upload)) (g .flash))
+      → g ≡ takenAll p (record { upload = restarted address (s .upload); flash = d }) bytes → accepted (p .size) (s .upload .next) address (length bytes) ≡ true
+      → Entered p k a f (replied (p .bus) to (Reply ok []) (withUpload s (g .upload)) (g .flash))
   unfolding writes
   accepted-enters address bytes g at what made e =
       let k′ : Ledger = cond (eqb address 0) (opened (k .copy)) k in
@@ -137,4 +137,4 @@ module _ (p : Profile) (s : State) (d : List ℕ) (k : Ledger) (a : ℕ) (f : Li
       let bytes : List ℕ = drop 2 (argumentsOf (p .bus) f) in
       by-test (accepted (p .size) (s .upload .next) address (length bytes))
       (λ e. rw e (accepted-enters address bytes _ (write-address (p .bus) f long) (write-data (p .bus) f) refl e))
-      (λ e. rw e (error-quiet p k a f to invalidArguments [] s d refl (heard-keeps p s d k h)))
+      (λ e. rw e (error-no-entry p k a f to invalidArguments [] s d refl (serving-keeps p s d k h)))

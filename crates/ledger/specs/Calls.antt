@@ -54,13 +54,13 @@ module _ (B : Board) (p : Profile) where
   abbrev pub stepped : Ledger → Call → Reaction (B .Kept) → Step
   stepped k c r = record { call = c; number = r .number; reply = r .reply; count = B .count (r .state); flash = r .flash; ledger = fed p k c (r .number) (r .reply) }
 
-  -- each call gets the state and flash that the last one left
+  -- each call takes state and flash from the one before
   unfoldable pub trace : B .Kept → List ℕ → Ledger → List Call → List Step
   trace s d k [] = []
   trace s d k (c ∷ cs) =
       let r : Reaction (B .Kept) = B .call p s d c in
       stepped k c r ∷ trace (r .state) (r .flash) (fed p k c (r .number) (r .reply)) cs
 
--- the list starts with the fresh state and any flash, under one profile
+-- a whole list under one profile: from the fresh state, on any flash
 abbrev pub traced : Board → Profile → List ℕ → List Call → List Step
 traced B p d cs = trace B p (B .fresh) d (opened d) cs

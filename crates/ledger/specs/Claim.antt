@@ -51,7 +51,7 @@ abbrev pub follow : ℕ → List Piece → Bool
 follow at [] = true
 follow at (w ∷ ws) = eqb (w .address) at && follow (at + length (w .bytes)) ws
 
--- one at 0 and then each where the one before ended
+-- the first at 0, each next at the previous end
 abbrev pub fromZero : List Piece → Bool
 fromZero [] = false
 fromZero (w ∷ ws) = eqb (w .address) 0 && follow (length (w .bytes)) ws
@@ -85,7 +85,7 @@ pub record Right (p : Profile) (s : Step) : Type 0 where
   pub count-is : s .count ≡ s .ledger .count
   -- it is at most n
   pub count-bytes : s .ledger .count ≤ length (s .ledger .accepted)
-  -- and at most n divided by the page rounded down plus f
+  -- and at most the number of whole pages in n, plus f
   pub count-pages : s .ledger .count ≤ length (s .ledger .accepted) / p .page + s .ledger .finals
   pub finished : finalizeStep p s ≡ true → Finished p s
 

@@ -1,4 +1,4 @@
--- Document 01, "The plain book": an independent witness. It knows the profile and is fed each frame with its answer, never the board's state or flash.
+-- Document 01, "The plain book": an independent witness. It gets the profile, frames and their answers, but no state or flash of the board.
 -- It shares no definition with the board: it reads frames at fixed offsets, knows the RS485 reset as its four bytes, and lays bytes in a way of its own.
 use mathlib.Core.Bool.{Bool, true, false, cond, _&&_, _||_, not}
 use mathlib.Core.List.{List, [], _∷_, _++_}
@@ -9,7 +9,7 @@ use Rattle.rules.specs.declared.kinds.Bus.{Bus}
 use Rattle.rules.specs.declared.kinds.Bus.the-variants.{I2c, Rs485}
 use Rattle.rules.specs.Profile.{Profile}
 
--- the plain book: a flash copy, an earlier copy, the accepted bytes, how many of them are committed, a count and f
+-- the plain book: a copy of the flash, an earlier one, accepted bytes, the number committed, a count, and f
 pub record Ledger : Type 0 where
   pub copy : List ℕ
   pub earlier : List ℕ
@@ -35,8 +35,8 @@ unequal [] (y ∷ ys) = true
 unequal (x ∷ xs) [] = true
 unequal (x ∷ xs) (y ∷ ys) = not (eqb x y) || unequal xs ys
 
--- the book commits: the uncommitted bytes are laid over the flash copy at O plus their place among the accepted ones;
--- if that changes it, the count rises by one; now all are committed
+-- a commit of the book: each uncommitted byte is written to the flash copy at O plus its place in the accepted bytes;
+-- a change raises the count by one; no byte stays uncommitted
 unfoldable pub commits : Profile → Ledger → Ledger
 commits p k =
     let new : List ℕ = lay (k .copy) (p .offset + k .committed) (drop (k .committed) (k .accepted)) in
@@ -49,7 +49,7 @@ commits p k =
       finals = k .finals;
     }
 
--- one data byte joins the accepted ones; each time their number becomes a multiple of the page, the book commits
+-- one more accepted byte; the book commits when it completes a page
 unfoldable pub joins : Profile → Ledger → ℕ → Ledger
 joins p k b =
     let more : Ledger = record { copy = k .copy; earlier = k .earlier; accepted = k .accepted ++ (b ∷ []); committed = k .committed; count = k .count; finals = k .finals } in
@@ -59,11 +59,11 @@ unfoldable pub joinsAll : Profile → Ledger → List ℕ → Ledger
 joinsAll p k [] = k
 joinsAll p k (b ∷ bs) = joinsAll p (joins p k b) bs
 
--- accepted write: if its address is 0, first as at a reset; then its data bytes join
+-- accepted write: at 0 it first does what a reset does; then it adds its data bytes
 unfoldable pub writes : Profile → Ledger → ℕ → List ℕ → Ledger
 writes p k address bytes = joinsAll p (cond (eqb address 0) (opened (k .copy)) k) bytes
 
--- answered finalize: if any accepted byte isn't committed, f rises by one and the book commits
+-- answered finalize: with uncommitted bytes it adds one to f, and the book commits
 unfoldable pub finalizes : Profile → Ledger → Ledger
 finalizes p k =
     cond (ltb (k .committed) (length (k .accepted)))

@@ -58,7 +58,7 @@ module _ (p : Profile) (s : State) (flash buffer : ℕ) where
   unfolding refusal
   refusal-firstOf a b c d = rw (a, b, c, d)
 
-  -- the call goes on: what holds then is `refusal-sound` of rules
+  -- the call goes on: what holds then is `refusal-unrefused` of rules
   pub check-passed : checkOf (refusal p s flash buffer) ≡ Passed → refusal p s flash buffer ≡ 0
   unfolding refusal checkOf
   check-passed = go (not (inRange p)) (flashShort p flash) (not (wellFormed p s)) (bufferShort p buffer)

@@ -146,7 +146,7 @@ pub enum Check {
     Refused(Outcome),
 }
 
-// Board calls test 2, 3, 4, 5 in that order.
+// Order of a board call's tests: 2, 3, 4, 5.
 pub fn refuse(p: Profile, s: State, flash: usize, buffer: usize) -> Check
     ensures { λ r. ⌜ r ≡ checkOf (refusal (profileOf p) (view s) flash buffer) ⌝ }
 {

@@ -1,9 +1,9 @@
 // The profile in 36 bytes, as it crosses the C boundary: include/childbus.h has the layout as a table, specs/ as definitions.
 // Bytes that hold no profile read as a profile out of range, so that the board's own test answers them.
 use fields::four_at;
-use fields::wide;
 use profile::Profile;
 use rules::kinds::Bus;
+use widening::wide;
 ghost use mathlib.Core.Path.{_≡_};
 ghost use Prim.Native.Nat.{_≤_};
 ghost use lib.ListN.{length};

@@ -4,35 +4,36 @@ use response::COMMAND_NOT_SUPPORTED;
 use response::Done;
 use response::INVALID_ARGUMENTS;
 use response::OK;
-use response::say;
+use response::reply;
 use response::two_bytes;
 use rules::kinds::Bus;
 use state::State;
+use widening::wide;
 ghost use mathlib.Core.Path.{_≡_};
 ghost use mathlib.Core.List.{List, [], _∷_};
 ghost use Prim.Native.Nat.{ℕ, _+_, _≤_};
 ghost use lib.ListN.{length};
 ghost use Rattle.rules.specs.Frames.{shortestReply};
-ghost use Rattle.rules.specs.Commands.{told, ok, hardwareInfo, serialNumber, shown};
+ghost use Rattle.rules.specs.Commands.{replying, ok, hardwareInfo, serialNumber, shown};
 ghost use Rattle.state.specs.View.{view};
 ghost use Rattle.profile.specs.View.{profileOf};
-ghost use Rattle.response.specs.Done.{seen, done, Serving};
+ghost use Rattle.response.specs.Done.{commandEffect, ruledCommand, Serving};
 
 // 0x00 version: results 2, 2.
 pub fn version(s: State, out: &mut [u8], at: usize) -> Done
     requires { ⌜ at + 2 ≤ length (now out) ⌝ }
-    ensures { λ r. ⌜ ((d : List ℕ) → seen r d (now (out .exit)) ≡ done (told (view s) d ok (2 ∷ 2 ∷ [])) (now (out .entry)) at) ⌝ }
+    ensures { λ r. ⌜ ((d : List ℕ) → commandEffect r d (now (out .exit)) ≡ ruledCommand (replying (view s) d ok (2 ∷ 2 ∷ [])) (now (out .entry)) at) ⌝ }
 {
-    say(s, OK, &[2, 2], out, at)
+    reply(s, OK, &[2, 2], out, at)
 }
 
-// 0x03 hardware info: type, compatible revision, bootloader version, S in two bytes.
+// 0x03 hardware info: type and compatible revision, bootloader version, two-byte S.
 pub fn hardware_info(p: Profile, s: State, out: &mut [u8], at: usize) -> Done
     requires { ⌜ (p .size ≤ 65535) × (at + 5 ≤ length (now out)) ⌝ }
-    ensures { λ r. ⌜ ((d : List ℕ) → seen r d (now (out .exit)) ≡ done (told (view s) d ok (hardwareInfo (profileOf p))) (now (out .entry)) at) ⌝ }
+    ensures { λ r. ⌜ ((d : List ℕ) → commandEffect r d (now (out .exit)) ≡ ruledCommand (replying (view s) d ok (hardwareInfo (profileOf p))) (now (out .entry)) at) ⌝ }
 {
     let size = two_bytes(p.size);
-    say(
+    reply(
         s,
         OK,
         &[p.hardware, p.compatible, p.version, size[0], size[1]],
@@ -41,31 +42,25 @@ pub fn hardware_info(p: Profile, s: State, out: &mut [u8], at: usize) -> Done
     )
 }
 
-// 0x04 serial: its bytes; if empty, COMMAND_NOT_SUPPORTED.
+// 0x04: the serial's bytes, COMMAND_NOT_SUPPORTED if none.
 pub fn serial(p: Profile, s: State, out: &mut [u8], at: usize) -> Done
     requires { ⌜ (p .seriallen ≤ 16) × (at + 16 ≤ length (now out)) ⌝ }
-    ensures { λ r. ⌜ ((d : List ℕ) → seen r d (now (out .exit)) ≡ done (serialNumber (profileOf p) (view s) d) (now (out .entry)) at) ⌝ }
+    ensures { λ r. ⌜ ((d : List ℕ) → commandEffect r d (now (out .exit)) ≡ ruledCommand (serialNumber (profileOf p) (view s) d) (now (out .entry)) at) ⌝ }
 {
     let len = p.seriallen;
     if len == 0 {
-        return say(s, COMMAND_NOT_SUPPORTED, &[], out, at);
+        return reply(s, COMMAND_NOT_SUPPORTED, &[], out, at);
     }
     let bytes = p.serial;
-    say(s, OK, &bytes[..len], out, at)
+    reply(s, OK, &bytes[..len], out, at)
 }
 
 // 0x09 actual revision.
 pub fn revision(p: Profile, s: State, out: &mut [u8], at: usize) -> Done
     requires { ⌜ at + 1 ≤ length (now out) ⌝ }
-    ensures { λ r. ⌜ ((d : List ℕ) → seen r d (now (out .exit)) ≡ done (told (view s) d ok (p .actual ∷ [])) (now (out .entry)) at) ⌝ }
+    ensures { λ r. ⌜ ((d : List ℕ) → commandEffect r d (now (out .exit)) ≡ ruledCommand (replying (view s) d ok (p .actual ∷ [])) (now (out .entry)) at) ⌝ }
 {
-    say(s, OK, &[p.actual], out, at)
-}
-
-fn wide(x: u8) -> usize
-    ensures { λ r. ⌜ (r ≡ x) × (r ≤ 255) ⌝ }
-{
-    x as usize
+    reply(s, OK, &[p.actual], out, at)
 }
 
 // The longest result part of a reply.
@@ -84,18 +79,18 @@ pub fn read(p: Profile, s: State, args: &[u8], flash: &[u8], out: &mut [u8], at:
     requires { ⌜ Serving p s (length (now flash)) (length (now out)) at ⌝ }
     requires { ⌜ length (now args) ≡ 3 ⌝ }
     ensures { λ r.
-        ⌜ seen r (now (flash .entry)) (now (out .exit)) ≡ done (shown (profileOf p) (view s) (now (args .entry)) (now (flash .entry))) (now (out .entry)) at ⌝ }
+        ⌜ commandEffect r (now (flash .entry)) (now (out .exit)) ≡ ruledCommand (shown (profileOf p) (view s) (now (args .entry)) (now (flash .entry))) (now (out .entry)) at ⌝ }
 {
     let address = wide(args[0]) * 256 + wide(args[1]);
     let n = wide(args[2]);
     if p.size < address + n {
-        return say(s, INVALID_ARGUMENTS, &[], out, at);
+        return reply(s, INVALID_ARGUMENTS, &[], out, at);
     }
     let bus = p.bus;
     if longest_results(bus, p.longest) < n {
-        return say(s, INVALID_ARGUMENTS, &[], out, at);
+        return reply(s, INVALID_ARGUMENTS, &[], out, at);
     }
     let start = p.offset + address;
     let end = start + n;
-    say(s, OK, &flash[start..end], out, at)
+    reply(s, OK, &flash[start..end], out, at)
 }

@@ -1,7 +1,7 @@
 // An I²C read: the last reply, which the state keeps. Profile, state, lent flash and a lent reply buffer go in, as for a received frame.
 // It takes any bytes at all.
 use answer::Answer;
-use answer::quiet;
+use answer::no_reply;
 use profile::Check;
 use profile::Profile;
 use rules::kinds::Bus;
@@ -22,7 +22,7 @@ fn i2c_read_answered(s: State, address: u8) -> bool
         return false;
     }
     let own = s.address;
-    if !addressing::hears(Bus::I2c, own, address) {
+    if !addressing::addressed(Bus::I2c, own, address) {
         return false;
     }
     s.last.len != 0
@@ -37,7 +37,7 @@ fn read_answered(bus: Bus, s: State, address: u8) -> bool
     }
 }
 
-// An I²C read answers the last reply unchanged, any number of times.
+// An I²C read hands out the last reply and keeps it as it is.
 pub fn read(p: Profile, s: State, address: u8, flash: &[u8], out: &mut [u8]) -> Answer
     ensures { λ r.
         ⌜ Answered s r (now (flash .entry)) (now (out .exit)) (now (out .entry))
@@ -49,7 +49,7 @@ pub fn read(p: Profile, s: State, address: u8, flash: &[u8], out: &mut [u8]) -> 
     }
     let bus = p.bus;
     if !read_answered(bus, s, address) {
-        return quiet(s);
+        return no_reply(s);
     }
     let n = s.last.len;
     let bytes = s.last.bytes;

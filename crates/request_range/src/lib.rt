@@ -5,7 +5,7 @@ ghost use mathlib.Core.Path.{_≡_};
 ghost use Prim.Native.Nat.{_+_, _^_, _<_, _≤_};
 ghost use Rattle.rules.specs.Master.{addressOver, commandWrong, setAddressWrong, readWrong, argumentWrong};
 
-// A bus address over 255, over 127 on I²C.
+// A bus address past 255, on I²C past 127.
 fn address_over(bus: Bus, a: usize) -> bool
     ensures { λ r. ⌜ r ≡ addressOver bus a ⌝ }
 {

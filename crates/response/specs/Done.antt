@@ -6,7 +6,7 @@ use lib.ListN.{length}
 use Rattle.rules.specs.Bytes.{overlay}
 use Rattle.rules.specs.State as rules
 use Rattle.rules.specs.Commands as commands
-use Rattle.rules.specs.Commands.{Acted, Says, Silent}
+use Rattle.rules.specs.Commands.{Acted, Reply, NoReply}
 use Rattle.rules.specs.Frames.{headerLength}
 use Rattle.laws.proofs.StateLaws as laws
 use Rattle.state.specs.declared.State.{State}
@@ -17,30 +17,30 @@ use Rattle.response.specs.declared.Response.{Response}
 use Rattle.response.specs.declared.Response.the-variants as response
 use Rattle.response.specs.declared.Done.{Done}
 
-pub record Seen : Type 0 where
+pub record CommandEffect : Type 0 where
   pub response : Response
   pub state : rules.State
   pub flash : List ℕ
   pub out : List ℕ
 
 -- what a command function left
-abbrev pub seen : Done → List ℕ → List ℕ → Seen
-seen r d out = record { response = r .response; state = view (r .state); flash = d; out = out }
+abbrev pub commandEffect : Done → List ℕ → List ℕ → CommandEffect
+commandEffect r d out = record { response = r .response; state = view (r .state); flash = d; out = out }
 
 -- a response with its results counted, and laid over the buffer
 abbrev pub counted : commands.Response → Response
-counted (Says status results) = response.Says status (length results)
-counted Silent = response.Silent
+counted (Reply status results) = response.Reply status (length results)
+counted NoReply = response.NoReply
 
 abbrev pub resultsIn : commands.Response → List ℕ → ℕ → List ℕ
-resultsIn (Says status results) out at = overlay out at results
-resultsIn Silent out at = out
+resultsIn (Reply status results) out at = overlay out at results
+resultsIn NoReply out at = out
 
 -- what the rules say of a command, with its results laid over the buffer from a place on
-abbrev pub done : Acted → List ℕ → ℕ → Seen
-done a out at = record { response = counted (a .response); state = a .state; flash = a .flash; out = resultsIn (a .response) out at }
+abbrev pub ruledCommand : Acted → List ℕ → ℕ → CommandEffect
+ruledCommand a out at = record { response = counted (a .response); state = a .state; flash = a .flash; out = resultsIn (a .response) out at }
 
 -- what a command function asks: none of the numbers 2 to 5 applies, and results begin behind the header, the status and their count
 pub record Serving (p : Profile) (s : State) (flashLength bufferLength at : ℕ) : Type 0 where
-  pub sound : laws.Sound (profileOf p) (view s) flashLength bufferLength
+  pub sound : laws.Unrefused (profileOf p) (view s) flashLength bufferLength
   pub at-is : at ≡ headerLength (p .bus) + 2

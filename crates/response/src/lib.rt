@@ -5,14 +5,14 @@ ghost use mathlib.Core.List.{List};
 ghost use Prim.Native.Nat.{ℕ, _+_, _≤_};
 ghost use lib.ListN.{length};
 ghost use Rattle.rules.specs.Frames.{twoBytes};
-ghost use Rattle.rules.specs.Commands.{told, ok};
+ghost use Rattle.rules.specs.Commands.{replying, ok};
 ghost use Rattle.state.specs.View.{view};
-ghost use Rattle.response.specs.Done.{seen, done};
+ghost use Rattle.response.specs.Done.{commandEffect, ruledCommand};
 
 // A status with so many results, or nothing to send.
 pub enum Response {
-    Says { status: u8, count: usize },
-    Silent,
+    Reply { status: u8, count: usize },
+    NoReply,
 }
 
 pub struct Done {
@@ -32,15 +32,15 @@ pub const INVALID_CRC: u8 = 4;
 pub const INVALID_ARGUMENTS: u8 = 5;
 
 // A status and its results; the state stays.
-pub fn say(s: State, status: u8, results: &[u8], out: &mut [u8], at: usize) -> Done
+pub fn reply(s: State, status: u8, results: &[u8], out: &mut [u8], at: usize) -> Done
     requires { ⌜ at + length (now results) ≤ length (now out) ⌝ }
     ensures { λ r.
-        ⌜ ((d : List ℕ) → seen r d (now (out .exit)) ≡ done (told (view s) d status (now (results .entry))) (now (out .entry)) at) ⌝ }
+        ⌜ ((d : List ℕ) → commandEffect r d (now (out .exit)) ≡ ruledCommand (replying (view s) d status (now (results .entry))) (now (out .entry)) at) ⌝ }
 {
     let count = results.len();
     flash::store(out, at, results);
     Done {
-        response: Response::Says { status, count },
+        response: Response::Reply { status, count },
         state: s,
     }
 }
@@ -54,10 +54,10 @@ pub fn two_bytes(n: usize) -> [u8; 2]
 }
 
 // A status and a number of two bytes.
-pub fn say_number(s: State, n: usize, out: &mut [u8], at: usize) -> Done
+pub fn reply_number(s: State, n: usize, out: &mut [u8], at: usize) -> Done
     requires { ⌜ (n ≤ 65535) × (at + 2 ≤ length (now out)) ⌝ }
-    ensures { λ r. ⌜ ((d : List ℕ) → seen r d (now (out .exit)) ≡ done (told (view s) d ok (twoBytes n)) (now (out .entry)) at) ⌝ }
+    ensures { λ r. ⌜ ((d : List ℕ) → commandEffect r d (now (out .exit)) ≡ ruledCommand (replying (view s) d ok (twoBytes n)) (now (out .entry)) at) ⌝ }
 {
     let bytes = two_bytes(n);
-    say(s, OK, &bytes, out, at)
+    reply(s, OK, &bytes, out, at)
 }

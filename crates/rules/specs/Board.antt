@@ -12,8 +12,8 @@ use Rattle.rules.specs.declared.kinds.Verdict.the-variants.{Reset, Runni
 use Rattle.rules.specs.Profile.{Profile}
 use Rattle.rules.specs.State.{State, fresh}
 use Rattle.rules.specs.Numbers.{refusal}
-use Rattle.rules.specs.Frames.{reply, destination, hears, verdict, commandOf, argumentsOf}
-use Rattle.rules.specs.Commands.{Response, Says, Silent, Acted, told, obeyed, invalidTransfer, invalidCrc}
+use Rattle.rules.specs.Frames.{reply, destination, addressed, verdict, commandOf, argumentsOf}
+use Rattle.rules.specs.Commands.{Response, Reply, NoReply, Acted, replying, executed, invalidTransfer, invalidCrc}
 
 -- what a board call answers and leaves: its number, the reply's bytes (none unless the number is 0), the state and the flash
 pub record Called : Type 0 where
@@ -31,11 +31,11 @@ abbrev pub withLast : Bus → State → List ℕ → State
 withLast I2c s r = record { address = s .address; running = s .running; upload = s .upload; last = r }
 withLast Rs485 s r = record { address = s .address; running = s .running; upload = s .upload; last = [] }
 
--- a write to this board replaces the last reply with the new one, or by none where there's no reply
+-- after a write to this board its reply is the last reply; after a silent one there is none
 abbrev pub replied : Bus → ℕ → Response → State → List ℕ → Called
-replied bus address (Says status results) s d =
+replied bus address (Reply status results) s d =
     record { number = 0; reply = reply bus address status results; state = withLast bus s (reply bus address status results); flash = d }
-replied bus address Silent s d = nothing (withLast bus s []) d
+replied bus address NoReply s d = nothing (withLast bus s []) d
 
 -- what a command did, told to its sender
 abbrev pub finishedCall : Bus → ℕ → Acted → Called
@@ -46,18 +46,18 @@ abbrev pub addressReset : State → State
 addressReset s = record { address = DefaultRange; running = s .running; upload = s .upload; last = [] }
 
 -- a frame by its verdict
-unfoldable pub judged : Profile → State → ℕ → List ℕ → List ℕ → Verdict → Called
-judged p s a f d Reset = nothing fresh d
-judged p s a f d Running = nothing s d
-judged p s a f d ResetAddress = nothing (addressReset s) d
-judged p s a f d Short = nothing s d
-judged p s a f d Long = nothing s d
-judged p s a f d WrongSum = nothing s d
-judged p s a f d Foreign = nothing s d
-judged p s a f d OtherGeneral = nothing s d
-judged p s a f d BadTransfer = finishedCall (p .bus) (destination (p .bus) a f) (told s d invalidTransfer [])
-judged p s a f d BadSum = finishedCall (p .bus) (destination (p .bus) a f) (told s d invalidCrc [])
-judged p s a f d Command = finishedCall (p .bus) (destination (p .bus) a f) (obeyed p s (commandOf (p .bus) f) (argumentsOf (p .bus) f) d)
+unfoldable pub handled : Profile → State → ℕ → List ℕ → List ℕ → Verdict → Called
+handled p s a f d Reset = nothing fresh d
+handled p s a f d Running = nothing s d
+handled p s a f d ResetAddress = nothing (addressReset s) d
+handled p s a f d Short = nothing s d
+handled p s a f d Long = nothing s d
+handled p s a f d WrongSum = nothing s d
+handled p s a f d Foreign = nothing s d
+handled p s a f d OtherGeneral = nothing s d
+handled p s a f d BadTransfer = finishedCall (p .bus) (destination (p .bus) a f) (replying s d invalidTransfer [])
+handled p s a f d BadSum = finishedCall (p .bus) (destination (p .bus) a f) (replying s d invalidCrc [])
+handled p s a f d Command = finishedCall (p .bus) (destination (p .bus) a f) (executed p s (commandOf (p .bus) f) (argumentsOf (p .bus) f) d)
 
 -- a call refused by a number of 2 or above: all untouched
 abbrev pub refused : ℕ → State → List ℕ → Called
@@ -67,15 +67,15 @@ refused n s d = record { number = n; reply = []; state = s; flash = d }
 unfoldable pub received : Profile → State → ℕ → List ℕ → List ℕ → ℕ → Called
 received p s a f d bufferLength =
     cond (eqb (refusal p s (length d) bufferLength) 0)
-    (judged p s a f d (verdict (p .bus) (p .longest) (s .running) (s .address) a f))
+    (handled p s a f d (verdict (p .bus) (p .longest) (s .running) (s .address) a f))
     (refused (refusal p s (length d) bufferLength) s d)
 
--- there is a last reply for this address; with none, at a foreign address, at address 0, on RS485 or while running there is not
+-- this address gets a last reply: there is one and the board is addressed (never by 0), not on RS485 and not while running
 abbrev pub readAnswered : Bus → State → ℕ → Bool
-readAnswered I2c s a = not (s .running) && (hears I2c (s .address) a && not (eqb (length (s .last)) 0))
+readAnswered I2c s a = not (s .running) && (addressed I2c (s .address) a && not (eqb (length (s .last)) 0))
 readAnswered Rs485 s a = false
 
--- an I²C read answers the last reply unchanged, any number of times
+-- an I²C read hands out the last reply and keeps it as it is
 unfoldable pub readOut : Profile → State → ℕ → List ℕ → ℕ → Called
 readOut p s a d bufferLength =
     cond (eqb (refusal p s (length d) bufferLength) 0)

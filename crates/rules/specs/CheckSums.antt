@@ -46,7 +46,7 @@ run k r (b ∷ bs) = run k (byte k r b) bs
 abbrev pub crc : Algorithm → List ℕ → ℕ
 crc k bs = run k (k .start) bs
 
--- CRC-8: polynomial x^8 + x^2 + x + 1, most significant bit first, start 0xFF
+-- CRC-8: start 0xFF, most significant bit first, polynomial x^8 + x^2 + x + 1
 abbrev pub crc8 : Algorithm
 crc8 = mostFirst 8 0x07 0xFF
 

@@ -12,7 +12,7 @@ use Rattle.rules.specs.State.{State, Upload, freshUpload}
 use Rattle.rules.specs.Frames.{twoBytes, numberAt, shortestReply}
 use Rattle.rules.specs.Commit.{Progress, takenAll, finalized}
 
--- a fixed table of rows, one per code 0x00 to 0x0e: served or not, shortest, longest
+-- the argument table, a row for each code 0x00 to 0x0e: served, shortest, longest
 abbrev pub argumentRows : List (List ℕ)
 argumentRows =
     (1 ∷ 0 ∷ 0 ∷ [])
@@ -62,8 +62,8 @@ invalidArguments = 5
 
 -- what a command says: a status with its results, or nothing
 pub data Response : Type 0 where
-  Says : ℕ → List ℕ → Response
-  Silent : Response
+  Reply : ℕ → List ℕ → Response
+  NoReply : Response
 
 pub record Acted : Type 0 where
   pub response : Response
@@ -71,8 +71,8 @@ pub record Acted : Type 0 where
   pub flash : List ℕ
 
 -- a reply that changes nothing
-abbrev pub told : State → List ℕ → ℕ → List ℕ → Acted
-told s d status results = record { response = Says status results; state = s; flash = d }
+abbrev pub replying : State → List ℕ → ℕ → List ℕ → Acted
+replying s d status results = record { response = Reply status results; state = s; flash = d }
 
 -- the state with another upload
 abbrev pub withUpload : State → Upload → State
@@ -83,29 +83,29 @@ abbrev pub addressTaken : Bus → ℕ → ℕ
 addressTaken I2c a = a % 128
 addressTaken Rs485 a = a
 
--- 0x01 set address: address, type. Type neither own nor 0: silence
+-- 0x01 set address: address, type (own or 0, else silence)
 unfoldable pub setAddress : Profile → State → List ℕ → List ℕ → Acted
 setAddress p s args d =
     cond (eqb (getD args 1 0) (p .hardware) || eqb (getD args 1 0) 0)
     (record {
-      response = Says ok [];
+      response = Reply ok [];
       state = record { address = Own (addressTaken (p .bus) (getD args 0 0)); running = s .running; upload = s .upload; last = s .last };
       flash = d;
     })
-    (record { response = Silent; state = s; flash = d })
+    (record { response = NoReply; state = s; flash = d })
 
--- 0x03 hardware info: type, compatible revision, bootloader version, S in two bytes
+-- 0x03 hardware info: type and compatible revision, bootloader version, two-byte S
 abbrev pub hardwareInfo : Profile → List ℕ
 hardwareInfo p = p .hardware ∷ p .compatible ∷ p .version ∷ twoBytes (p .size)
 
--- 0x04 serial: its bytes; if empty, COMMAND_NOT_SUPPORTED
+-- 0x04: the serial's bytes, COMMAND_NOT_SUPPORTED if none
 abbrev pub serialNumber : Profile → State → List ℕ → Acted
-serialNumber p s d = cond (eqb (length (p .serial)) 0) (told s d commandNotSupported []) (told s d ok (p .serial))
+serialNumber p s d = cond (eqb (length (p .serial)) 0) (replying s d commandNotSupported []) (replying s d ok (p .serial))
 
--- 0x05 start: no reply, running; waiting bytes are lost, w = 0
+-- 0x05 start: silence, running, waiting bytes lost (w = 0)
 abbrev pub started : State → List ℕ → Acted
 started s d = record {
-  response = Silent;
+  response = NoReply;
   state = record {
     address = s .address;
     running = true;
@@ -115,29 +115,29 @@ started s d = record {
   flash = d;
 }
 
--- 0x06 write is accepted exactly if the address is 0 or next, and address plus data length is at most S
+-- 0x06 write is accepted at 0 or next if its data don't run past S, in no other case
 abbrev pub accepted : ℕ → ℕ → ℕ → ℕ → Bool
 accepted S next address n = (eqb address 0 || eqb address next) && leb (address + n) S
 
--- an accepted write at 0 drops waiting bytes and sets the count to 0, even with no data
-abbrev pub begun : ℕ → Upload → Upload
-begun address u = cond (eqb address 0) freshUpload u
+-- an accepted write at 0, even an empty one, restarts: no waiting bytes, count 0
+abbrev pub restarted : ℕ → Upload → Upload
+restarted address u = cond (eqb address 0) freshUpload u
 
 -- 0x06 write: address, data bytes
 unfoldable pub written : Profile → State → List ℕ → List ℕ → Acted
 written p s args d =
     let address : ℕ = numberAt args 0 in
     let bytes : List ℕ = drop 2 args in
-    let g : Progress = takenAll p (record { upload = begun address (s .upload); flash = d }) bytes in
+    let g : Progress = takenAll p (record { upload = restarted address (s .upload); flash = d }) bytes in
     cond (accepted (p .size) (s .upload .next) address (length bytes))
-    (record { response = Says ok []; state = withUpload s (g .upload); flash = g .flash })
-    (told s d invalidArguments [])
+    (record { response = Reply ok []; state = withUpload s (g .upload); flash = g .flash })
+    (replying s d invalidArguments [])
 
--- 0x07 finalize: results (house) are the erase count in two bytes
+-- 0x07 finalize: answers the erase count as two bytes (house)
 unfoldable pub finished : Profile → State → List ℕ → Acted
 finished p s d =
     let g : Progress = finalized p (record { upload = s .upload; flash = d }) in
-    record { response = Says ok (twoBytes (g .upload .count)); state = withUpload s (g .upload); flash = g .flash }
+    record { response = Reply ok (twoBytes (g .upload .count)); state = withUpload s (g .upload); flash = g .flash }
 
 -- 0x08 read (house) shows flash, never waiting bytes: within S, and no longer than a reply holds
 abbrev pub readable : Profile → ℕ → ℕ → Bool
@@ -149,26 +149,26 @@ shown p s args d =
     let address : ℕ = numberAt args 0 in
     let n : ℕ = getD args 2 0 in
     cond (readable p address n)
-    (told s d ok (take n (drop (p .offset + address) d)))
-    (told s d invalidArguments [])
+    (replying s d ok (take n (drop (p .offset + address) d)))
+    (replying s d invalidArguments [])
 
 -- the command's own rule, for a served code
 unfoldable pub performed : Profile → State → ℕ → List ℕ → List ℕ → Acted
 performed p s code args d =
-    cond (eqb code 0x00) (told s d ok (2 ∷ 2 ∷ []))
+    cond (eqb code 0x00) (replying s d ok (2 ∷ 2 ∷ []))
     (cond (eqb code 0x01) (setAddress p s args d)
-    (cond (eqb code 0x03) (told s d ok (hardwareInfo p))
+    (cond (eqb code 0x03) (replying s d ok (hardwareInfo p))
     (cond (eqb code 0x04) (serialNumber p s d)
     (cond (eqb code 0x05) (started s d)
     (cond (eqb code 0x06) (written p s args d)
     (cond (eqb code 0x07) (finished p s d)
     (cond (eqb code 0x08) (shown p s args d)
-    (cond (eqb code 0x09) (told s d ok (p .actual ∷ []))
-    (told s d ok (twoBytes (p .longest)))))))))))
+    (cond (eqb code 0x09) (replying s d ok (p .actual ∷ []))
+    (replying s d ok (twoBytes (p .longest)))))))))))
 
 -- unknown or unserved command, COMMAND_NOT_SUPPORTED; wrong argument length, INVALID_ARGUMENTS; then the command's own rule
-unfoldable pub obeyed : Profile → State → ℕ → List ℕ → List ℕ → Acted
-obeyed p s code args d =
-    cond (not (served code)) (told s d commandNotSupported [])
-    (cond (not (lengthAllowed code (length args))) (told s d invalidArguments [])
+unfoldable pub executed : Profile → State → ℕ → List ℕ → List ℕ → Acted
+executed p s code args d =
+    cond (not (served code)) (replying s d commandNotSupported [])
+    (cond (not (lengthAllowed code (length args))) (replying s d invalidArguments [])
     (performed p s code args d))

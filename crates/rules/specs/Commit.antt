@@ -17,8 +17,8 @@ pub record Progress : Type 0 where
 abbrev pub pageStart : ℕ → ℕ → ℕ
 pageStart page place = place / page * page
 
--- Commit. The new page is the old page with the waiting bytes laid over their places.
--- If that equals the old page nothing happens. Otherwise the page is erased and written, and the count rises by one. Then w = 0.
+-- Commit: the waiting bytes are put at their places in the page; its other bytes stay.
+-- Only a page that differs from the old one is erased and written, and raises the count by one. In both cases w = 0 afterwards.
 unfoldable pub committed : Profile → Progress → Progress
 committed p g =
     let u : Upload = g .upload in
@@ -42,6 +42,6 @@ unfoldable pub takenAll : Profile → Progress → List ℕ → Progress
 takenAll p g [] = g
 takenAll p g (b ∷ bs) = takenAll p (taken p g b) bs
 
--- finalize: commits the page with waiting bytes, if there are any
+-- finalize: a commit if bytes are waiting, else nothing
 unfoldable pub finalized : Profile → Progress → Progress
 finalized p g = cond (eqb (length (g .upload .waiting)) 0) g (committed p g)

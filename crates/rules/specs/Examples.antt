@@ -1,4 +1,4 @@
--- Document 01, "Proved examples": one table, one statement over its rows. E1 to E12, the edges that it names as rows 13 to 19, a shorter upload
+-- Document 01, "Proved examples", in one table with one statement. E1 to E12, the edges that it names as rows 13 to 19, a shorter upload
 -- over a longer one as row 20, and the edges of the sizes (numbers 2 and 4) as rows 21 to 29.
 use mathlib.Core.Bool.{Bool, false, cond}
 use mathlib.Core.List.{List, [], _∷_, _++_}
@@ -123,15 +123,15 @@ rows =
     ∷ row 8 (resetFrame Rs485) (0x00 ∷ 0x46 ∷ 0x80 ∷ 0x42 ∷ [])
     -- E9 reset address
     ∷ row 9 (resetAddressFrame Rs485) (0x00 ∷ 0x44 ∷ 0x01 ∷ 0x83 ∷ [])
-    -- E10: write 70 bytes 0x11 at 0, count 1, w = 6
+    -- E10: 70 bytes 0x11 from 0 on: count 1, w = 6
     ∷ row 10 (countAfter seventy ∷ length (seventy .state .upload .waiting) ∷ []) (1 ∷ 6 ∷ [])
-    -- finalize, count 2 (I²C reply 00 02 00 02 09)
+    -- finalize: count 2, I²C answer 00 02 00 02 09
     ∷ row 10 (countAfter uploaded ∷ uploaded .reply) (2 ∷ 0x00 ∷ 0x02 ∷ 0x00 ∷ 0x02 ∷ 0x09 ∷ [])
     -- bytes 70 to 127 still 0xFF
     ∷ row 10 (drop 70 (uploaded .flash)) (replicate 58 0xFF)
     -- E11: the same upload again, count 0
     ∷ row 11 (countAfter (closed (filled uploaded 70 0x11)) ∷ []) (0 ∷ [])
-    -- E12: after E10's finalize, byte 0x22 at 70, finalize, count 3
+    -- E12: E10, then byte 0x22 at 70 and a finalize: count 3
     ∷ row 12 (countAfter (closed (byteAt uploaded 70 0x22)) ∷ []) (3 ∷ [])
     -- edges: write ending at S, and at S + 1
     ∷ row 13 (full .state .upload .next ∷ full .reply) (128 ∷ 0x00 ∷ 0x00 ∷ 0xD7 ∷ [])

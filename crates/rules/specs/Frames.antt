@@ -42,7 +42,7 @@ numberAt bytes place = getD bytes place 0 * 256 + getD bytes (place + 1) 0
 unfoldable pub request : Bus → ℕ → ℕ → List ℕ → List ℕ
 request bus address code arguments = sealed bus (header bus address ++ code ∷ arguments)
 
--- Reply: (RS485: address of the request,) status, count of results, results, check sum
+-- Reply: (RS485: the request's address,) status, number of results, results, check sum
 unfoldable pub reply : Bus → ℕ → ℕ → List ℕ → List ℕ
 reply bus address status results = sealed bus (header bus address ++ status ∷ length results ∷ results)
 
@@ -80,14 +80,14 @@ answersTo DefaultRange a = leb 8 a && leb a 15
 answersTo (Own b) a = eqb a b
 
 -- a destination is this board; address 0 is always the general call
-unfoldable pub hears : Bus → Address → ℕ → Bool
-hears bus own a = not (eqb a 0) && (addressFits bus a && answersTo own a)
+unfoldable pub addressed : Bus → Address → ℕ → Bool
+addressed bus own a = not (eqb a 0) && (addressFits bus a && answersTo own a)
 
 -- a frame that is neither of the two general calls, to a board that is not running
 unfoldable pub framing : Bus → ℕ → Address → ℕ → List ℕ → Verdict
 framing I2c M own a f =
     cond (eqb a 0) OtherGeneral
-    (cond (not (hears I2c own a)) Foreign
+    (cond (not (addressed I2c own a)) Foreign
     (cond (ltb (length f) (shortestRequest I2c) || ltb M (length f)) BadTransfer
     (cond (not (sumRight I2c f)) BadSum Command)))
 framing Rs485 M own a f =
@@ -95,7 +95,7 @@ framing Rs485 M own a f =
     (cond (ltb M (length f)) Long
     (cond (not (sumRight Rs485 f)) WrongSum
     (cond (eqb (getD f 0 0) 0) OtherGeneral
-    (cond (not (hears Rs485 own (getD f 0 0))) Foreign Command))))
+    (cond (not (addressed Rs485 own (getD f 0 0))) Foreign Command))))
 
 -- a general call is sent to address 0 and has its exact form
 abbrev pub isGeneral : Bus → ℕ → List ℕ → List ℕ → Bool

@@ -43,7 +43,7 @@ encodedLength FrameOutOfRange = 0
 encodedLength OutputTooShort = 0
 encodedLength ArgumentOutOfRange = 0
 
--- every served command and both general calls (these take no destination); the data bytes are a write's
+-- served commands, and the two general calls, which have no destination; the data bytes are a write's
 unfoldable pub requestBytes : Bus → Request → ℕ → List ℕ → List ℕ
 requestBytes bus (Plain code) destination bytes = request bus destination code []
 requestBytes bus (SetAddress address hardware) destination bytes = request bus destination 0x01 (address ∷ hardware ∷ [])
@@ -52,7 +52,7 @@ requestBytes bus (Read address n) destination bytes = request bus destination 0x
 requestBytes bus ResetAddress destination bytes = resetAddressFrame bus
 requestBytes bus Reset destination bytes = resetFrame bus
 
--- a bus address over 255 (over 127 on I²C)
+-- a bus address past 255, on I²C past 127
 abbrev pub addressOver : Bus → ℕ → Bool
 addressOver I2c a = ltb 127 a
 addressOver Rs485 a = ltb 255 a
@@ -121,7 +121,7 @@ decodedAs LengthWrong = unread 11
 decodedAs StatusUnknown = unread 12
 decodedAs ResultsMissing = unread 13
 
--- Fixed parts: version 2, hardware info 5, revision 1, finalize 2, M 2, read its length asked, all others 0
+-- Fixed parts: revision 1; version, finalize and M 2; hardware info 5; read the length asked; any other 0
 unfoldable pub fixedPart : ℕ → ℕ → ℕ
 fixedPart code asked =
     cond (eqb code 0x00) 2
@@ -131,11 +131,11 @@ fixedPart code asked =
     (cond (eqb code 0x09) 1
     (cond (eqb code 0x0c) 2 0)))))
 
--- OK with fewer results than the command's fixed part
+-- OK without all of the command's fixed part
 abbrev pub resultsMissing : ℕ → ℕ → ℕ → ℕ → Bool
 resultsMissing code asked status n = eqb status ok && ltb n (fixedPart code asked)
 
--- a reply of so many bytes holds n results: on I²C bytes after the CRC are ignored; on RS485 there may be none
+-- a reply of so many bytes holds n results: more bytes may follow its CRC on I²C, none on RS485
 abbrev pub lengthRight : Bus → ℕ → ℕ → Bool
 lengthRight I2c n long = leb (n + shortestReply I2c) long
 lengthRight Rs485 n long = eqb (n + shortestReply Rs485) long
@@ -161,7 +161,7 @@ opened bus code address asked reply =
     (cond (resultsMissing code asked (statusOf bus reply) (countOf bus reply)) (unread 13)
     (record { number = 0; status = statusOf bus reply; start = headerLength bus + 2; len = countOf bus reply }))))
 
--- the decoder tests 7 (command not served), 8, 11, and then the others
+-- decoding: 7 for an unserved command, then 8, 11, then the others
 unfoldable pub decoded : Bus → ℕ → ℕ → ℕ → List ℕ → Decoding
 decoded bus code address asked reply =
     cond (not (served code)) (unread 7)
@@ -178,7 +178,7 @@ decodedRead code asked reply = decoded I2c code 0 asked reply
 abbrev pub resultsIn : Decoding → List ℕ → List ℕ
 resultsIn d reply = take (d .len) (drop (d .start) reply)
 
--- a part of the first lent read if that one decodes, else of the second, and an empty part if neither does
+-- a part of the read that decodes, of the first if both do; an empty part if neither does
 unfoldable pub resultBytes : ℕ → ℕ → List ℕ → List ℕ → List ℕ
 resultBytes code asked first second =
     cond (eqb (decodedRead code asked first .number) 0) (resultsIn (decodedRead code asked first) first)
@@ -213,7 +213,7 @@ ruledAs Unknown = record { number = 14; major = 0; minor = 0 }
 abbrev pub capped : ℕ → ℕ → ℕ
 capped highest minor = cond (ltb highest minor) highest minor
 
--- major 1 (minor 0 to 1) and 2 (minor 0 to 2) are known; any other major is 14
+-- known are minors 0 and 1 of major 1, 0 to 2 of major 2; another major is 14
 unfoldable pub versionRule : ℕ → ℕ → Ruled
 versionRule major minor =
     cond (eqb major 1) (record { number = 0; major = 1; minor = capped 1 minor })

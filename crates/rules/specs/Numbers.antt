@@ -27,7 +27,7 @@ made FlashTooShort = 0
 made StateMalformed = 0
 made BufferTooShort = 0
 
--- 0 leaves the first k bytes of the lent output, its rest untouched
+-- 0 fills k bytes of the lent output from its start; the rest stays
 abbrev pub laid : List ℕ → List ℕ → List ℕ
 laid bytes out = bytes ++ drop (length bytes) out
 
@@ -39,7 +39,7 @@ flashShort p n = ltb n (p .offset + p .size)
 abbrev pub bufferShort : Profile → ℕ → Bool
 bufferShort p n = ltb n (p .longest)
 
--- board calls test 2, 3, 4, 5 in that order; 0 where none of them applies
+-- the first of 2, 3, 4, 5 that a board call has to answer; 0 for none
 unfoldable pub refusal : Profile → State → ℕ → ℕ → ℕ
 refusal p s flashLength bufferLength =
     cond (not (inRange p)) 2

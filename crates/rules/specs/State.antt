@@ -29,7 +29,7 @@ pub record State : Type 0 where
 abbrev pub freshUpload : Upload
 freshUpload = record { next = 0; waiting = []; count = 0 }
 
--- Fresh: default range, not running, all the rest zero
+-- Fresh: not running, in the default range, else zero
 abbrev pub fresh : State
 fresh = record { address = DefaultRange; running = false; upload = freshUpload; last = [] }
 

@@ -35,7 +35,7 @@ pub struct State {
 
 impl Upload {
     // Where an accepted write at 0 begins: nothing accepted, nothing waiting, count 0.
-    pub fn begun(mut self) -> Self
+    pub fn restarted(mut self) -> Self
         ensures { λ r. ⌜ uploadOf r ≡ freshUpload ⌝ }
     {
         self.next = 0;
@@ -69,7 +69,7 @@ impl State {
     // the largest M
     pub const LARGEST_FRAME: usize = 256;
 
-    // Fresh: default range, not running, all the rest zero.
+    // Fresh: not running, in the default range, else zero.
     pub fn fresh() -> Self
         ensures { λ r. ⌜ Fresh r ⌝ }
     {

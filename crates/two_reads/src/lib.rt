@@ -6,7 +6,7 @@ use rules::requests::Which;
 ghost use mathlib.Core.Path.{_≡_};
 ghost use Rattle.rules.specs.Master.{readNumber, resultBytes, whichRead};
 
-// The result bytes: a part of the first read if that one decodes, else of the second, and an empty part if neither does.
+// The result bytes: a part of the read that decodes, of the first if both do; an empty part if neither does.
 pub fn results<'a>(code: usize, asked: usize, first: &'a [u8], second: &'a [u8]) -> &'a [u8]
     ensures { λ r. ⌜ now r ≡ resultBytes code asked (now (first .entry)) (now (second .entry)) ⌝ }
 {

@@ -15,10 +15,10 @@ ghost use lib.ListN.{length};
 ghost use Rattle.rules.specs.Commands.{addressTaken, setAddress, started};
 ghost use Rattle.state.specs.View.{view};
 ghost use Rattle.profile.specs.View.{profileOf};
-ghost use Rattle.response.specs.Done.{seen, done};
+ghost use Rattle.response.specs.Done.{commandEffect, ruledCommand};
 
 // Set address is for boards of this type, or of type 0 for all types.
-fn type_heard(own: u8, asked: u8) -> bool
+fn type_matches(own: u8, asked: u8) -> bool
     ensures { λ r. ⌜ r ≡ (eqb asked own || eqb asked 0) ⌝ }
 {
     asked == own || asked == 0
@@ -34,28 +34,28 @@ fn address_taken(bus: Bus, address: u8) -> u8
     }
 }
 
-// 0x01 set address: address, type. Type neither own nor 0: silence.
+// 0x01 set address: address, type (own or 0, else silence).
 pub fn set_address(p: Profile, s: State, args: &[u8], out: &mut [u8], at: usize) -> Done
     requires { ⌜ (length (now args) ≡ 2) × (at ≤ length (now out)) ⌝ }
-    ensures { λ r. ⌜ ((d : List ℕ) → seen r d (now (out .exit)) ≡ done (setAddress (profileOf p) (view s) (now (args .entry)) d) (now (out .entry)) at) ⌝ }
+    ensures { λ r. ⌜ ((d : List ℕ) → commandEffect r d (now (out .exit)) ≡ ruledCommand (setAddress (profileOf p) (view s) (now (args .entry)) d) (now (out .entry)) at) ⌝ }
 {
-    if !type_heard(p.hardware, args[1]) {
+    if !type_matches(p.hardware, args[1]) {
         return Done {
-            response: Response::Silent,
+            response: Response::NoReply,
             state: s,
         };
     }
     let bus = p.bus;
     let own = address_taken(bus, args[0]);
-    response::say(s.with_address(Address::Own(own)), OK, &[], out, at)
+    response::reply(s.with_address(Address::Own(own)), OK, &[], out, at)
 }
 
-// 0x05 start: no reply, running; waiting bytes are lost.
+// 0x05 start: silence, running, waiting bytes lost.
 pub fn start(s: State) -> Done
-    ensures { λ r. ⌜ ((d : List ℕ) (o : List ℕ) (at : ℕ) → seen r d o ≡ done (started (view s) d) o at) ⌝ }
+    ensures { λ r. ⌜ ((d : List ℕ) (o : List ℕ) (at : ℕ) → commandEffect r d o ≡ ruledCommand (started (view s) d) o at) ⌝ }
 {
     Done {
-        response: Response::Silent,
+        response: Response::NoReply,
         state: s.started(),
     }
 }

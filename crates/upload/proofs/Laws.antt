@@ -13,7 +13,7 @@ use Rattle.rules.specs.Profile as rules
 use Rattle.rules.specs.State.{used}
 use Rattle.rules.specs.Commit.{Progress, committed, takenAll, finalized}
 use Rattle.laws.proofs.BytesLaws.{length-overlay}
-use Rattle.laws.proofs.CommitLaws.{Fitting, raise, joined, committed-overlay, takenAll-below, takenAll-end}
+use Rattle.laws.proofs.CommitLaws.{Fitting, raise, appended, committed-overlay, takenAll-below, takenAll-end}
 use Rattle.laws.proofs.StateLaws.{used-take, used-zero, ProfileFacts, UploadFacts, inRange-facts, uploadFormed-facts, facts-uploadFormed}
 use Rattle.laws.proofs.UploadLaws.{Kept, takenAll-kept, finalized-kept, next-takenAll, next-finalized}
 use Rattle.state.specs.declared.Upload.{Upload}
@@ -21,7 +21,7 @@ use Rattle.state.specs.View.{page, uploadOf}
 use Rattle.state.proofs.Laws.{HeldFacts, length-waiting, upload-held}
 use Rattle.profile.specs.declared.Profile.{Profile}
 use Rattle.profile.specs.View.{profileOf}
-use Rattle.upload.specs.Progress.{progressOf, Ready, Formed, Settled}
+use Rattle.upload.specs.Progress.{progressOf, Ready, Formed, CommitCounted}
 
 -- accepted bytes that lie in one page
 
@@ -38,12 +38,12 @@ module _ (page n k : ℕ) (fits : n % page + k ≤ page) where
       omega arith
 
 module _ (p : rules.Profile) (g : Progress) where
-  pub takenAll-joined : (xs : List ℕ) → g .upload .next % p .page + length xs ≤ p .page → ((g .upload .next + length xs) % p .page ≡ 0 → ⊥)
-      → takenAll p g xs ≡ joined g xs
-  takenAll-joined xs fits left = takenAll-below p g xs (mod-below (p .page) (g .upload .next) (length xs) fits left)
+  pub takenAll-appended : (xs : List ℕ) → g .upload .next % p .page + length xs ≤ p .page → ((g .upload .next + length xs) % p .page ≡ 0 → ⊥)
+      → takenAll p g xs ≡ appended g xs
+  takenAll-appended xs fits left = takenAll-below p g xs (mod-below (p .page) (g .upload .next) (length xs) fits left)
 
   pub takenAll-committed : (xs : List ℕ) → g .upload .next % p .page + length xs ≤ p .page → 0 < length xs
-      → (g .upload .next + length xs) % p .page ≡ 0 → takenAll p g xs ≡ committed p (joined g xs)
+      → (g .upload .next + length xs) % p .page ≡ 0 → takenAll p g xs ≡ committed p (appended g xs)
   takenAll-committed [] fits some e = absurd (omega arith)
   takenAll-committed (x ∷ xs) fits some e = takenAll-end p g x xs (mod-end (p .page) (g .upload .next) (length (x ∷ xs)) fits some e)
 
@@ -91,10 +91,10 @@ cond-raise false n = refl
 abbrev pub emptied : Upload → ℕ → Upload
 emptied u count = record { next = u .next; held = 0; count = count; waiting = u .waiting }
 
-pub committed-settled : (p : Profile) (u : Upload) {count : ℕ} {d d′ : List ℕ} → Fitting (profileOf p) (progressOf u d) → u .held ≤ length (u .waiting)
-    → Settled d (p .offset + (u .next - u .held)) (take (u .held) (u .waiting)) (u .count) count d′
+pub committed-counted : (p : Profile) (u : Upload) {count : ℕ} {d d′ : List ℕ} → Fitting (profileOf p) (progressOf u d) → u .held ≤ length (u .waiting)
+    → CommitCounted d (p .offset + (u .next - u .held)) (take (u .held) (u .waiting)) (u .count) count d′
     → committed (profileOf p) (progressOf u d) ≡ progressOf (emptied u count) d′
-committed-settled p u {count} {d} fits long settled =
+committed-counted p u {count} {d} fits long settled =
     let all : used (u .held) (u .waiting) ≡ take (u .held) (u .waiting) = used-take (u .held) (u .waiting) long in
     let n : length (take (u .held) (u .waiting)) ≡ u .held = length-take-le (u .held) (u .waiting) long in
     committed-overlay (profileOf p) (progressOf u d) fits ∙ rw (all, n, used-zero, settled .laid, settled .counted, cond-raise, n)

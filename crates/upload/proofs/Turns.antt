@@ -8,15 +8,15 @@ use lib.Seq.{take-add, length-take-le}
 use Rattle.rules.specs.Bytes.{overlay}
 use Rattle.rules.specs.Commit.{Progress, committed, takenAll}
 use Rattle.laws.proofs.BytesLaws.{length-overlay}
-use Rattle.laws.proofs.CommitLaws.{joined, takenAll-append}
+use Rattle.laws.proofs.CommitLaws.{appended, takenAll-append}
 use Rattle.laws.proofs.UploadLaws.{sub-mod, next-takenAll}
 use Rattle.state.specs.declared.Upload.{Upload}
 use Rattle.state.specs.View.{page}
 use Rattle.state.proofs.Laws.{HeldFacts, upload-held}
 use Rattle.profile.specs.declared.Profile.{Profile}
 use Rattle.profile.specs.View.{profileOf}
-use Rattle.upload.specs.Progress.{progressOf, Ready, Part, Settled}
-use Rattle.upload.proofs.Laws.{takenAll-joined, takenAll-committed, used-overlay, ready-bounds, emptied, fitting, committed-settled, kept-upload, ready-taken}
+use Rattle.upload.specs.Progress.{progressOf, Ready, Part, CommitCounted}
+use Rattle.upload.proofs.Laws.{takenAll-appended, takenAll-committed, used-overlay, ready-bounds, emptied, fitting, committed-counted, kept-upload, ready-taken}
 
 -- u and d are what the first i bytes make of u₀ and d₀
 pub record Reached (p : Profile) (u₀ : Upload) (d₀ bytes : List ℕ) (i : ℕ) (u : Upload) (d : List ℕ) : Type 0 where
@@ -78,29 +78,29 @@ module _ {p : Profile} {u₀ : Upload} {d₀ bytes : List ℕ} {i : ℕ} {u : Up
     buffer-stored = ap length part-stored ∙ length-overlay (u .waiting) (u .held) (take n (drop i bytes)) held-fits ∙ before .buffer
 
     -- the part has joined the waiting bytes
-    filled-joined : progressOf (filled u n ws) d ≡ joined (progressOf u d) (take n (drop i bytes))
-    filled-joined =
+    filled-appended : progressOf (filled u n ws) d ≡ appended (progressOf u d) (take n (drop i bytes))
+    filled-appended =
         let more = used-overlay (u .held) (u .waiting) (take n (drop i bytes)) held-fits in
         rw (part-stored, length-part, rw length-part at more)
 
     -- a part that ends before its page does: that is all
-    pub turn-joined : ((u .next + n) % page ≡ 0 → ⊥) → Reached p u₀ d₀ bytes (i + n) (filled u n ws) d
-    turn-joined short =
+    pub turn-appended : ((u .next + n) % page ≡ 0 → ⊥) → Reached p u₀ d₀ bytes (i + n) (filled u n ws) d
+    turn-appended short =
         reached d₀ ready bytes fits (i + n) (filled u n ws) (omega arith) buffer-stored
-        (filled-joined
-        ∙ sym (takenAll-joined (profileOf p) (progressOf u d) (take n (drop i bytes)) (rw length-part (part .in-page)) (rw length-part short))
+        (filled-appended
+        ∙ sym (takenAll-appended (profileOf p) (progressOf u d) (take n (drop i bytes)) (rw length-part (part .in-page)) (rw length-part short))
         ∙ takenAll-part)
 
     -- a part that ends with its page: the page is committed
     pub turn-committed : {count : ℕ} {d′ : List ℕ} → (u .next + n) % page ≡ 0
-        → Settled d (p .offset + (u .next + n - (u .held + n))) (take (u .held + n) ws) (u .count) count d′
+        → CommitCounted d (p .offset + (u .next + n - (u .held + n))) (take (u .held + n) ws) (u .count) count d′
         → Reached p u₀ d₀ bytes (i + n) (emptied (filled u n ws) count) d′
     turn-committed {count} whole settled =
         let place = sub-mod page (u .next) (u .held) (omega arith) (before .held .held-most) in
         let shift : u .next + n - (u .held + n) ≡ u .next - u .held = omega arith in
         let lies = fitting p (filled u n ws) d (ready-bounds ready .profile) (omega arith) (omega arith) (omega arith) (rw shift (omega arith)) in
         reached d₀ ready bytes fits (i + n) (emptied (filled u n ws) count) (omega arith) buffer-stored
-        (sym (committed-settled p (filled u n ws) lies (rw buffer-stored (omega arith)) settled)
-        ∙ ap (committed (profileOf p)) filled-joined
+        (sym (committed-counted p (filled u n ws) lies (rw buffer-stored (omega arith)) settled)
+        ∙ ap (committed (profileOf p)) filled-appended
         ∙ sym (takenAll-committed (profileOf p) (progressOf u d) (take n (drop i bytes)) (rw length-part (part .in-page)) (rw length-part (part .some)) (rw length-part whole))
         ∙ takenAll-part)

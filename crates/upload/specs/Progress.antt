@@ -35,6 +35,6 @@ pub record Part (next left n : ℕ) : Type 0 where
   pub in-page : next % page + n ≤ page
 
 -- bytes committed at a place of flash d, which becomes d′, with the erase count before and after
-pub record Settled (d : List ℕ) (at : ℕ) (bytes : List ℕ) (count count′ : ℕ) (d′ : List ℕ) : Type 0 where
+pub record CommitCounted (d : List ℕ) (at : ℕ) (bytes : List ℕ) (count count′ : ℕ) (d′ : List ℕ) : Type 0 where
   pub counted : count′ ≡ cond (same (take (length bytes) (drop at d)) bytes) count (count + 1)
   pub laid : d′ ≡ overlay d at bytes

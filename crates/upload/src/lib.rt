@@ -8,7 +8,7 @@ ghost use Prim.Native.Nat.{_+_, _≤_, _<_};
 ghost use lib.ListN.{length};
 ghost use Rattle.rules.specs.Commit.{takenAll, finalized};
 ghost use Rattle.profile.specs.View.{profileOf};
-ghost use Rattle.upload.specs.Progress.{progressOf, Ready, Formed, Part, Settled};
+ghost use Rattle.upload.specs.Progress.{progressOf, Ready, Formed, Part, CommitCounted};
 
 // How many of the bytes left go into the page of the next address.
 fn part(next: usize, left: usize) -> usize
@@ -20,9 +20,9 @@ fn part(next: usize, left: usize) -> usize
 }
 
 // Commits the waiting bytes at their place: the erase count after that.
-fn settle(flash: &mut [u8], at: usize, waiting: &[u8], count: usize) -> usize
+fn commit_counted(flash: &mut [u8], at: usize, waiting: &[u8], count: usize) -> usize
     requires { ⌜ (count < at + length (now waiting)) × (at + length (now waiting) ≤ length (now flash)) ⌝ }
-    ensures { λ r. ⌜ Settled (now (flash .entry)) at (now (waiting .entry)) count r (now (flash .exit)) ⌝ }
+    ensures { λ r. ⌜ CommitCounted (now (flash .entry)) at (now (waiting .entry)) count r (now (flash .exit)) ⌝ }
 {
     if flash::commit(flash, at, waiting) {
         count + 1
@@ -51,7 +51,7 @@ pub fn take(p: Profile, u: Upload, bytes: &[u8], flash: &mut [u8]) -> Upload
         next += n;
         held += n;
         if next % State::PAGE == 0 {
-            count = settle(flash, p.offset + (next - held), &waiting[..held], count);
+            count = commit_counted(flash, p.offset + (next - held), &waiting[..held], count);
             held = 0;
         }
     }
@@ -63,7 +63,7 @@ pub fn take(p: Profile, u: Upload, bytes: &[u8], flash: &mut [u8]) -> Upload
     }
 }
 
-// Finalize: commits the page with waiting bytes, if there are any.
+// Finalize: a commit if bytes are waiting, else nothing.
 pub fn finalize(p: Profile, u: Upload, flash: &mut [u8]) -> Upload
     requires { ⌜ Ready p u (length (now flash)) ⌝ }
     ensures { λ r. ⌜ progressOf r (now (flash .exit)) ≡ finalized (profileOf p) (progressOf u (now (flash .entry))) ⌝ }
@@ -78,7 +78,7 @@ pub fn finalize(p: Profile, u: Upload, flash: &mut [u8]) -> Upload
     let waiting = u.waiting;
     let offset = p.offset;
     let mut r = u;
-    r.count = settle(flash, offset + (next - held), &waiting[..held], count);
+    r.count = commit_counted(flash, offset + (next - held), &waiting[..held], count);
     r.held = 0;
     r
 }

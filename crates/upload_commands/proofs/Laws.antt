@@ -11,7 +11,7 @@ use borrow.Author.Tests.{eqb-true, leb-true}
 use Rattle.rules.specs.Profile.{inRange}
 use Rattle.rules.specs.State as rules
 use Rattle.rules.specs.State.{uploadFormed}
-use Rattle.rules.specs.Commands.{accepted, begun}
+use Rattle.rules.specs.Commands.{accepted, restarted}
 use Rattle.laws.proofs.StateLaws.{uploadFormed-facts, facts-uploadFormed}
 use Rattle.state.specs.declared.State.{State}
 use Rattle.state.specs.declared.Upload.{Upload}
@@ -39,21 +39,21 @@ module _ (p : Profile) (s : State) (n m at : ℕ) (serving : Serving p s n m at)
       omega (arith, f .count-most, f .next-most, serving .sound .profile .size-most)
 
 -- an upload that begins anew, or goes on, is formed
-pub begun-formed : (P S a : ℕ) (u : rules.Upload) → uploadFormed P S u ≡ true → uploadFormed P S (begun a u) ≡ true
-begun-formed P S a u formed = go (eqb a 0) refl
+pub restarted-formed : (P S a : ℕ) (u : rules.Upload) → uploadFormed P S u ≡ true → uploadFormed P S (restarted a u) ≡ true
+restarted-formed P S a u formed = go (eqb a 0) refl
   where
-    go : (b : Bool) → eqb a 0 ≡ b → uploadFormed P S (begun a u) ≡ true
+    go : (b : Bool) → eqb a 0 ≡ b → uploadFormed P S (restarted a u) ≡ true
     go true e = rw e (facts-uploadFormed P S rules.freshUpload (record { next-most = omega arith; waiting-most = omega arith; count-most = omega arith }))
     go false e = rw e formed
 
 -- an accepted write's data follow the bytes that the upload has then, within S
-pub accepted-fits : (S a n : ℕ) (u : rules.Upload) → accepted S (u .next) a n ≡ true → begun a u .next + n ≤ S
+pub accepted-fits : (S a n : ℕ) (u : rules.Upload) → accepted S (u .next) a n ≡ true → restarted a u .next + n ≤ S
 accepted-fits S a n u e = go (eqb a 0) refl
   where
     parts : ((eqb a 0 || eqb a (u .next)) ≡ true) × (leb (a + n) S ≡ true)
     parts = and-eq-true-iff (eqb a 0 || eqb a (u .next)) (leb (a + n) S) .0 e
 
-    go : (b : Bool) → eqb a 0 ≡ b → begun a u .next + n ≤ S
+    go : (b : Bool) → eqb a 0 ≡ b → restarted a u .next + n ≤ S
     go true f = rw f (omega (arith, leb-true (a + n) S (parts .1)))
     go false f =
         let next : eqb a (u .next) ≡ true = rw f at (parts .0) in

@@ -5,15 +5,16 @@ use response::INVALID_ARGUMENTS;
 use response::OK;
 use state::State;
 use state::Upload;
+use widening::wide;
 ghost use mathlib.Core.Path.{_≡_};
 ghost use Prim.Native.Nat.{_+_, _≤_};
 ghost use lib.ListN.{length};
-ghost use Rattle.rules.specs.Commands.{accepted, begun, written, finished};
+ghost use Rattle.rules.specs.Commands.{accepted, restarted, written, finished};
 ghost use Rattle.state.specs.View.{uploadOf, view};
 ghost use Rattle.profile.specs.View.{profileOf};
-ghost use Rattle.response.specs.Done.{seen, done, Serving};
+ghost use Rattle.response.specs.Done.{commandEffect, ruledCommand, Serving};
 
-// A write is accepted exactly if the address is 0 or next, and address plus data length is at most S.
+// A write is accepted at 0 or next if its data don't run past S, in no other case.
 fn accepts(size: usize, next: usize, address: usize, n: usize) -> bool
     requires { ⌜ address + n ≤ 18446744073709551615 ⌝ }
     ensures { λ r. ⌜ r ≡ accepted size next address n ⌝ }
@@ -27,20 +28,14 @@ fn accepts(size: usize, next: usize, address: usize, n: usize) -> bool
     address + n <= size
 }
 
-// An accepted write at 0 drops waiting bytes and sets the count to 0, even with no data.
-fn begin(u: Upload, address: usize) -> Upload
-    ensures { λ r. ⌜ uploadOf r ≡ begun address (uploadOf u) ⌝ }
+// An accepted write at 0, even an empty one, restarts: no waiting bytes, count 0.
+fn restart(u: Upload, address: usize) -> Upload
+    ensures { λ r. ⌜ uploadOf r ≡ restarted address (uploadOf u) ⌝ }
 {
     if address == 0 {
-        return u.begun();
+        return u.restarted();
     }
     u
-}
-
-fn wide(x: u8) -> usize
-    ensures { λ r. ⌜ (r ≡ x) × (r ≤ 255) ⌝ }
-{
-    x as usize
 }
 
 // 0x06 write: address, data bytes.
@@ -48,26 +43,26 @@ pub fn write(p: Profile, s: State, args: &[u8], flash: &mut [u8], out: &mut [u8]
     requires { ⌜ Serving p s (length (now flash)) (length (now out)) at ⌝ }
     requires { ⌜ 2 ≤ length (now args) ⌝ }
     ensures { λ r.
-        ⌜ seen r (now (flash .exit)) (now (out .exit)) ≡ done (written (profileOf p) (view s) (now (args .entry)) (now (flash .entry))) (now (out .entry)) at ⌝ }
+        ⌜ commandEffect r (now (flash .exit)) (now (out .exit)) ≡ ruledCommand (written (profileOf p) (view s) (now (args .entry)) (now (flash .entry))) (now (out .entry)) at ⌝ }
 {
     let address = wide(args[0]) * 256 + wide(args[1]);
     let upload = s.upload;
     let bytes = &args[2..];
     if !accepts(p.size, upload.next, address, bytes.len()) {
-        return response::say(s, INVALID_ARGUMENTS, &[], out, at);
+        return response::reply(s, INVALID_ARGUMENTS, &[], out, at);
     }
-    let taken = upload::take(p, begin(upload, address), bytes, flash);
-    response::say(s.with_upload(taken), OK, &[], out, at)
+    let taken = upload::take(p, restart(upload, address), bytes, flash);
+    response::reply(s.with_upload(taken), OK, &[], out, at)
 }
 
 // 0x07 finalize: results are the erase count in two bytes.
 pub fn finalize(p: Profile, s: State, flash: &mut [u8], out: &mut [u8], at: usize) -> Done
     requires { ⌜ Serving p s (length (now flash)) (length (now out)) at ⌝ }
     ensures { λ r.
-        ⌜ seen r (now (flash .exit)) (now (out .exit)) ≡ done (finished (profileOf p) (view s) (now (flash .entry))) (now (out .entry)) at ⌝ }
+        ⌜ commandEffect r (now (flash .exit)) (now (out .exit)) ≡ ruledCommand (finished (profileOf p) (view s) (now (flash .entry))) (now (out .entry)) at ⌝ }
 {
     let upload = s.upload;
-    let settled = upload::finalize(p, upload, flash);
-    let count = settled.count;
-    response::say_number(s.with_upload(settled), count, out, at)
+    let finalized = upload::finalize(p, upload, flash);
+    let count = finalized.count;
+    response::reply_number(s.with_upload(finalized), count, out, at)
 }

@@ -1,5 +1,5 @@
 // Document 01, "Frames and check sums": what a received frame is to a board, by name, before the answer has its number.
-use addressing::hears;
+use addressing::addressed;
 use rules::kinds::Address;
 use rules::kinds::Bus;
 use rules::kinds::Verdict;
@@ -33,7 +33,7 @@ fn i2c_framing(longest: usize, own: Address, to: u8, frame: &[u8]) -> Verdict
     if to == 0 {
         return Verdict::OtherGeneral;
     }
-    if !hears(Bus::I2c, own, to) {
+    if !addressed(Bus::I2c, own, to) {
         return Verdict::Foreign;
     }
     if frame.len() < 2 {
@@ -65,14 +65,21 @@ fn rs485_framing(longest: usize, own: Address, frame: &[u8]) -> Verdict
     if to == 0 {
         return Verdict::OtherGeneral;
     }
-    if !hears(Bus::Rs485, own, to) {
+    if !addressed(Bus::Rs485, own, to) {
         return Verdict::Foreign;
     }
     Verdict::Command
 }
 
 // What a received frame is. The reset is heard while running, nothing else is.
-pub fn judge(bus: Bus, longest: usize, running: bool, own: Address, to: u8, frame: &[u8]) -> Verdict
+pub fn classify(
+    bus: Bus,
+    longest: usize,
+    running: bool,
+    own: Address,
+    to: u8,
+    frame: &[u8],
+) -> Verdict
     ensures { λ r. ⌜ r ≡ verdict bus longest running own to (now (frame .entry)) ⌝ }
 {
     if is_reset(bus, to, frame) {

@@ -12,16 +12,16 @@ use Rattle.rules.specs.State.{State, Upload, fresh}
 use Rattle.rules.specs.Numbers.{refusal}
 use Rattle.rules.specs.Frames.{destination, verdict, commandOf, argumentsOf, numberAt, twoBytes}
 use Rattle.rules.specs.Commit.{Progress, committed}
-use Rattle.rules.specs.Commands.{Says, Acted, lengthAllowed, ok, invalidArguments, told, withUpload, accepted, begun, obeyed}
-use Rattle.rules.specs.Board.{Called, finishedCall, judged, refused}
+use Rattle.rules.specs.Commands.{Reply, Acted, lengthAllowed, ok, invalidArguments, replying, withUpload, accepted, restarted, executed}
+use Rattle.rules.specs.Board.{Called, finishedCall, handled, refused}
 use Rattle.ledger.specs.Calls.{Call, Frame, Read, Reaction, Board, reaction, calls}
 use Rattle.demands.specs.Past.{isCommand}
 
--- what a frame by its verdict does, as the rules' `judged`
-abbrev pub Judgement : Type 0
-Judgement = Profile → State → ℕ → List ℕ → List ℕ → Verdict → Called
+-- what a frame by its verdict does, as the rules' `handled`
+abbrev pub Handling : Type 0
+Handling = Profile → State → ℕ → List ℕ → List ℕ → Verdict → Called
 
--- what a command does, as the rules' `obeyed`
+-- what a command does, as the rules' `executed`
 abbrev pub Rule : Type 0
 Rule = Profile → State → ℕ → List ℕ → List ℕ → Acted
 
@@ -30,23 +30,23 @@ abbrev pub Commit : Type 0
 Commit = Profile → Progress → Progress
 
 -- what the board does with a call, by another judgement on frames
-abbrev pub judging : Judgement → Profile → State → List ℕ → Call → Reaction State
-judging judge p s d (Frame a f n) =
+abbrev pub handlingBy : Handling → Profile → State → List ℕ → Call → Reaction State
+handlingBy judge p s d (Frame a f n) =
     reaction (cond (eqb (refusal p s (length d) n) 0)
     (judge p s a f d (verdict (p .bus) (p .longest) (s .running) (s .address) a f))
     (refused (refusal p s (length d) n) s d))
-judging judge p s d (Read a n) = calls p s d (Read a n)
+handlingBy judge p s d (Read a n) = calls p s d (Read a n)
 
 -- a board that keeps a state and shows the state's count
 abbrev pub boardBy : (Profile → State → List ℕ → Call → Reaction State) → Board
 boardBy call = record { Kept = State; fresh = fresh; count = λ s. s .upload .count; call = call }
 
 -- another rule for the well-framed commands
-abbrev pub obeying : Rule → Judgement
-obeying rule p s a f d v =
+abbrev pub executing : Rule → Handling
+executing rule p s a f d v =
     cond (isCommand v)
     (finishedCall (p .bus) (destination (p .bus) a f) (rule p s (commandOf (p .bus) f) (argumentsOf (p .bus) f) d))
-    (judged p s a f d v)
+    (handled p s a f d v)
 
 -- another commit, in the commands that commit
 module _ (commit : Commit) where
@@ -67,31 +67,31 @@ module _ (commit : Commit) where
   writtenBy p s args d =
       let address : ℕ = numberAt args 0 in
       let bytes : List ℕ = drop 2 args in
-      let g : Progress = takenAllBy p (record { upload = begun address (s .upload); flash = d }) bytes in
+      let g : Progress = takenAllBy p (record { upload = restarted address (s .upload); flash = d }) bytes in
       cond (accepted (p .size) (s .upload .next) address (length bytes))
-      (record { response = Says ok []; state = withUpload s (g .upload); flash = g .flash })
-      (told s d invalidArguments [])
+      (record { response = Reply ok []; state = withUpload s (g .upload); flash = g .flash })
+      (replying s d invalidArguments [])
 
   abbrev pub finishedBy : Profile → State → List ℕ → Acted
   finishedBy p s d =
       let g : Progress = finalizedBy p (record { upload = s .upload; flash = d }) in
-      record { response = Says ok (twoBytes (g .upload .count)); state = withUpload s (g .upload); flash = g .flash }
+      record { response = Reply ok (twoBytes (g .upload .count)); state = withUpload s (g .upload); flash = g .flash }
 
   abbrev pub committing : Rule
   committing p s code args d =
       cond (eqb code 0x06 && lengthAllowed code (length args)) (writtenBy p s args d)
       (cond (eqb code 0x07 && lengthAllowed code (length args)) (finishedBy p s d)
-      (obeyed p s code args d))
+      (executed p s code args d))
 
 -- the board of the rules with another rule, and with another commit
 abbrev pub ruledBy : Rule → Board
-ruledBy rule = boardBy (judging (obeying rule))
+ruledBy rule = boardBy (handlingBy (executing rule))
 
 abbrev pub committedBy : Commit → Board
 committedBy commit = ruledBy (committing commit)
 
 -- with the rules' own parts nothing is varied
 pub record VariedRight : Type 0 where
-  pub by-judgement : (p : Profile) (s : State) (d : List ℕ) (c : Call) → judging judged p s d c ≡ calls p s d c
-  pub by-rule : (p : Profile) (s : State) (d : List ℕ) (c : Call) → judging (obeying obeyed) p s d c ≡ calls p s d c
-  pub by-commit : (p : Profile) (s : State) (d : List ℕ) (c : Call) → judging (obeying (committing committed)) p s d c ≡ calls p s d c
+  pub by-judgement : (p : Profile) (s : State) (d : List ℕ) (c : Call) → handlingBy handled p s d c ≡ calls p s d c
+  pub by-rule : (p : Profile) (s : State) (d : List ℕ) (c : Call) → handlingBy (executing executed) p s d c ≡ calls p s d c
+  pub by-commit : (p : Profile) (s : State) (d : List ℕ) (c : Call) → handlingBy (executing (committing committed)) p s d c ≡ calls p s d c

@@ -11,10 +11,10 @@ use Rattle.rules.specs.Profile.{Profile}
 use Rattle.rules.specs.State.{State, Upload}
 use Rattle.rules.specs.Frames.{destination, numberAt, twoBytes}
 use Rattle.rules.specs.Commit.{Progress, committed, finalized}
-use Rattle.rules.specs.Commands.{Says, Acted, ok, invalidArguments, invalidCrc, told, withUpload, started, obeyed}
-use Rattle.rules.specs.Board.{finishedCall, judged}
+use Rattle.rules.specs.Commands.{Reply, Acted, ok, invalidArguments, invalidCrc, replying, withUpload, started, executed}
+use Rattle.rules.specs.Board.{finishedCall, handled}
 use Rattle.ledger.specs.Calls.{Call, Reaction, Board, calls}
-use Rattle.wrongboards.specs.Variations.{Judgement, Rule, Commit, judging, boardBy, ruledBy, committedBy}
+use Rattle.wrongboards.specs.Variations.{Handling, Rule, Commit, handlingBy, boardBy, ruledBy, committedBy}
 
 -- the state, running or not
 abbrev pub withRunning : State → Bool → State
@@ -24,27 +24,27 @@ withRunning s running = record { address = s .address; running = running; upload
 
 -- "a board that refuses all writes"
 abbrev pub refusesWrites : Board
-refusesWrites = ruledBy (λ p s code args d. cond (eqb code 0x06) (told s d invalidArguments []) (obeyed p s code args d))
+refusesWrites = ruledBy (λ p s code args d. cond (eqb code 0x06) (replying s d invalidArguments []) (executed p s code args d))
 
 -- "or says OK to all": a write that the rules refuse gets OK, and nothing is done
 abbrev pub okToAll : Board
 okToAll =
     ruledBy (λ p s code args d.
-    let a : Acted = obeyed p s code args d in
-    cond (eqb code 0x06) (record { response = Says ok []; state = a .state; flash = a .flash }) a)
+    let a : Acted = executed p s code args d in
+    cond (eqb code 0x06) (record { response = Reply ok []; state = a .state; flash = a .flash }) a)
 
 -- a board that calls itself running after its first write, and so answers nothing more
 abbrev pub runsAfterWrite : Board
 runsAfterWrite =
     ruledBy (λ p s code args d.
-    let a : Acted = obeyed p s code args d in
+    let a : Acted = executed p s code args d in
     cond (eqb code 0x06) (record { response = a .response; state = withRunning (a .state) true; flash = a .flash }) a)
 
 -- "one that keeps flash as it was"
 abbrev pub keepsFlash : Board
 keepsFlash = committedBy (λ p g. record { upload = committed p g .upload; flash = g .flash })
 
--- "one that commits only the first page and then just replies OK"
+-- commits no page but the first and still replies OK
 abbrev pub firstPageOnly : Board
 firstPageOnly =
     committedBy (λ p g.
@@ -55,9 +55,9 @@ firstPageOnly =
 abbrev pub inventsCount : Board
 inventsCount =
     ruledBy (λ p s code args d.
-    let a : Acted = obeyed p s code args d in
+    let a : Acted = executed p s code args d in
     cond (eqb code 0x07 && eqb (length args) 0)
-    (record { response = Says ok (twoBytes (suc (a .state .upload .count))); state = a .state; flash = a .flash })
+    (record { response = Reply ok (twoBytes (suc (a .state .upload .count))); state = a .state; flash = a .flash })
     a)
 
 -- "A fixed reply": these bytes, whatever is asked
@@ -83,31 +83,31 @@ padsLastPage =
     let h : Progress = committed p (record { upload = padded (p .page) (g .upload); flash = g .flash }) in
     record { upload = record { next = g .upload .next; waiting = []; count = h .upload .count }; flash = h .flash })
 
--- "Taking half of a write that runs past S": the bytes before S are taken, and then the write is refused
+-- half of a write past S is taken: the bytes before S, and then the write is refused
 abbrev pub takesHalf : Board
 takesHalf =
     ruledBy (λ p s code args d.
-    let half : Acted = obeyed p s code (take (2 + (p .size - numberAt args 0)) args) d in
+    let half : Acted = executed p s code (take (2 + (p .size - numberAt args 0)) args) d in
     cond (eqb code 0x06 && ltb (p .size) (numberAt args 0 + (length args - 2)))
-    (record { response = Says invalidArguments []; state = half .state; flash = half .flash })
-    (obeyed p s code args d))
+    (record { response = Reply invalidArguments []; state = half .state; flash = half .flash })
+    (executed p s code args d))
 
 -- "Sending INVALID_CRC on RS485"
-abbrev pub complains : Judgement
-complains p s a f d Reset = judged p s a f d Reset
-complains p s a f d Running = judged p s a f d Running
-complains p s a f d ResetAddress = judged p s a f d ResetAddress
-complains p s a f d Short = judged p s a f d Short
-complains p s a f d Long = judged p s a f d Long
-complains p s a f d WrongSum = finishedCall (p .bus) (destination (p .bus) a f) (told s d invalidCrc [])
-complains p s a f d Foreign = judged p s a f d Foreign
-complains p s a f d OtherGeneral = judged p s a f d OtherGeneral
-complains p s a f d BadTransfer = judged p s a f d BadTransfer
-complains p s a f d BadSum = judged p s a f d BadSum
-complains p s a f d Command = judged p s a f d Command
+abbrev pub invalidCrcHandling : Handling
+invalidCrcHandling p s a f d Reset = handled p s a f d Reset
+invalidCrcHandling p s a f d Running = handled p s a f d Running
+invalidCrcHandling p s a f d ResetAddress = handled p s a f d ResetAddress
+invalidCrcHandling p s a f d Short = handled p s a f d Short
+invalidCrcHandling p s a f d Long = handled p s a f d Long
+invalidCrcHandling p s a f d WrongSum = finishedCall (p .bus) (destination (p .bus) a f) (replying s d invalidCrc [])
+invalidCrcHandling p s a f d Foreign = handled p s a f d Foreign
+invalidCrcHandling p s a f d OtherGeneral = handled p s a f d OtherGeneral
+invalidCrcHandling p s a f d BadTransfer = handled p s a f d BadTransfer
+invalidCrcHandling p s a f d BadSum = handled p s a f d BadSum
+invalidCrcHandling p s a f d Command = handled p s a f d Command
 
 abbrev pub invalidCrcSent : Board
-invalidCrcSent = boardBy (judging complains)
+invalidCrcSent = boardBy (handlingBy invalidCrcHandling)
 
 -- "Counting a commit that changed nothing"
 abbrev pub countsUnchanged : Board
@@ -120,4 +120,4 @@ abbrev pub finalizesOnStart : Board
 finalizesOnStart =
     ruledBy (λ p s code args d.
     let g : Progress = finalized p (record { upload = s .upload; flash = d }) in
-    cond (eqb code 0x05 && eqb (length args) 0) (started (withUpload s (g .upload)) (g .flash)) (obeyed p s code args d))
+    cond (eqb code 0x05 && eqb (length args) 0) (started (withUpload s (g .upload)) (g .flash)) (executed p s code args d))

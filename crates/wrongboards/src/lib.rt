@@ -31,7 +31,7 @@ pub fn keeps_flash()
     ensures { λ _. ⌜ (Demand3 keepsFlash → ⊥) ⌝ }
 {}
 
-// A board that commits only the first page and then just replies OK: the same, with more than 64 bytes.
+// A board that commits no page but the first and still replies OK: the same, with more than 64 bytes.
 pub fn first_page_only()
     ensures { λ _. ⌜ (Demand3 firstPageOnly → ⊥) ⌝ }
 {}
@@ -51,7 +51,7 @@ pub fn pads_last_page()
     ensures { λ _. ⌜ (Demand3 padsLastPage → ⊥) ⌝ }
 {}
 
-// Taking half of a write that runs past S: demand 2, a refused write leaves flash as it was; and demand 3, flash equals the book's copy.
+// Half of a write past S is taken: demand 2, a refused write leaves flash as it was; and demand 3, flash equals the book's copy.
 pub fn takes_half()
     ensures { λ _. ⌜ (Demand2 takesHalf → ⊥) × (Demand3 takesHalf → ⊥) ⌝ }
 {}

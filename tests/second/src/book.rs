@@ -1,7 +1,7 @@
 //! The ledger: document 01's "plain book".
 //!
-//! It knows the profile and sees each frame or read with its answer, never
-//! the board's state or flash. It shares no rule with the board: it has its
+//! It gets the profile and each frame or read with the answer, but no
+//! state or flash of the board. It shares no rule with the board: it has its
 //! own reading of frames and its own commit.
 
 use crate::model::{Bus, Profile};

@@ -160,7 +160,7 @@ impl Pair {
     }
 }
 
-/// The data of writes that are one at 0 and then each where the last ended.
+/// The data of writes that begin at 0, each next at the previous end.
 fn joined(writes: &[(usize, Vec<u8>)]) -> Option<Vec<u8>> {
     let mut data = Vec::new();
     if writes.is_empty() {

@@ -1,6 +1,6 @@
 //! Both check sums, bit by bit.
 
-/// CRC-8: polynomial x^8+x^2+x+1, most significant bit first, start 0xFF.
+/// CRC-8: start 0xFF, most significant bit first, polynomial x^8+x^2+x+1.
 pub fn crc8(bytes: &[u8]) -> u8 {
     let mut sum: u8 = 0xff;
     for &byte in bytes {

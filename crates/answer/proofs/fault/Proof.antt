@@ -2,7 +2,7 @@
 use Rattle.laws.proofs.CommandLaws.{shortestReply-le}
 use Rattle.state.specs.View.{view}
 use Rattle.laws.proofs.BytesLaws.{overlay-none}
-use Rattle.rules.specs.Commands.{told}
+use Rattle.rules.specs.Commands.{replying}
 use Prim.Native.Nat.{_+_}
 use Rattle.rules.specs.Frames.{headerLength}
 use mathlib.Core.List.{[]}
@@ -24,7 +24,7 @@ returns : tie.Need-returns
 returns c =
     let st = c .before .before .before .before .before in
     λ d.
-    c .before .before .respond .ensures (told (view (st .args .s)) d (st .args .status) []) d (st .args .out .now) refl
+    c .before .before .respond .ensures (replying (view (st .args .s)) d (st .args .status) []) d (st .args .out .now) refl
     (rw (overlay-none (st .args .out .now) (headerLength (st .args .bus) + 2)))
 
 pub fault-spec : {M : Type 1} → statement M

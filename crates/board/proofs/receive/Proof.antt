@@ -1,11 +1,11 @@
 -- `board::receive` meets its contract: refused by the first of 2 to 5 that applies with all untouched, else judged. Assumes nothing.
-use Rattle.board.proofs.ServeLaws.{judged-number}
+use Rattle.board.proofs.ServeLaws.{handled-number}
 use Rattle.answer.proofs.AnsweredLaws.{answered}
 use Rattle.profile.proofs.Laws.{check-passed, check-refused}
 use Rattle.profile.specs.View.{profileOf}
 use Rattle.state.specs.View.{view}
-use Rattle.laws.proofs.BoardLaws.{received-judged, received-refused}
-use Rattle.laws.proofs.StateLaws.{refusal-sound}
+use Rattle.laws.proofs.BoardLaws.{received-handled, received-refused}
+use Rattle.laws.proofs.StateLaws.{refusal-unrefused}
 use Rattle.rules.specs.Numbers.{refusal}
 use Rattle.rules.specs.Board.{received}
 use borrow.Author.Tests.{eqb-false}
@@ -39,12 +39,12 @@ returns c =
 enum-told : tie.Need-enum-told
 enum-told c = search needs
 
-judge-requires : tie.Need-judge-requires
-judge-requires c κs =
+handle-requires : tie.Need-handle-requires
+handle-requires c κs =
     let e = c .before .before in
     let f = e .before .before in
     let st = f .before .before .before .before in
-    refusal-sound _ _ _ _ (check-passed (profileOf (st .args .p)) (view (st .args .s)) (length (st .args .flash .now)) (length (st .args .out .now)) (sym (f .refuse .ensures) ∙ e .enum-told .given .1))
+    refusal-unrefused _ _ _ _ (check-passed (profileOf (st .args .p)) (view (st .args .s)) (length (st .args .flash .now)) (length (st .args .out .now)) (sym (f .refuse .ensures) ∙ e .enum-told .given .1))
 
 same-length : tie.Need-same-length
 same-length c = search needs
@@ -61,8 +61,8 @@ returns-2 c =
     let p = profileOf (st .args .p) in
     let s = view (st .args .s) in
     let none = check-passed p s (length (st .args .flash .now)) (length (st .args .out .now)) (sym (f .refuse .ensures) ∙ e .enum-told .given .1) in
-    rw (received-judged p s (st .args .flash .now) (st .args .address) (st .args .frame .now) (length (st .args .out .now)) none)
-    (answered (st .args .s) _ _ _ _ _ (j .judge .ensures) (judged-number p s (st .args .address) (st .args .frame .now) (st .args .flash .now) _))
+    rw (received-handled p s (st .args .flash .now) (st .args .address) (st .args .frame .now) (length (st .args .out .now)) none)
+    (answered (st .args .s) _ _ _ _ _ (j .handle .ensures) (handled-number p s (st .args .address) (st .args .frame .now) (st .args .flash .now) _))
 
 pub receive-spec : {M : Type 1} → statement M
 receive-spec =
@@ -72,7 +72,7 @@ receive-spec =
     enum-known-check
     returns
     enum-told
-    judge-requires
+    handle-requires
     same-length
     same-length-2
     returns-2)

@@ -1,13 +1,13 @@
 -- `board::serve` meets its contract: the frame is taken apart as the rules do, obeyed and answered. Assumes nothing.
 use Rattle.board.proofs.ServeLaws.{fits-served}
 use Rattle.board.proofs.ServeLaws.{take-drop, fits-counted}
-use Rattle.answer.specs.Answered.{Fits, told}
+use Rattle.answer.specs.Answered.{Fits, expectedEffect}
 use Rattle.response.specs.Done as buffered
 use Rattle.profile.specs.View.{profileOf}
 use Rattle.state.specs.View.{view}
-use Rattle.laws.proofs.CommandLaws.{obeyed-sane}
+use Rattle.laws.proofs.CommandLaws.{executed-formed-result}
 use Rattle.rules.specs.Board.{finishedCall}
-use Rattle.rules.specs.Commands.{obeyed}
+use Rattle.rules.specs.Commands.{executed}
 use Rattle.rules.specs.CheckSums.{sumLength, unsealed}
 use Rattle.rules.specs.Frames.{headerLength, argumentsOf, commandOf}
 use lib.ListN.{length, take, drop, getD}
@@ -37,20 +37,20 @@ sum-length-requires c κs = search needs
 sub-end : tie.Need-sub-end
 sub-end c = search needs
 
-sub-obey : tie.Need-sub-obey
-sub-obey c = search needs
+sub-execute : tie.Need-sub-execute
+sub-execute c = search needs
 
-part-obey-start : tie.Need-part-obey-start
-part-obey-start c = search needs
+part-execute-start : tie.Need-part-execute-start
+part-execute-start c = search needs
 
-part-obey-end : tie.Need-part-obey-end
-part-obey-end c = search needs
+part-execute-end : tie.Need-part-execute-end
+part-execute-end c = search needs
 
-add-obey : tie.Need-add-obey
-add-obey c = search needs
+add-execute : tie.Need-add-execute
+add-execute c = search needs
 
-obey-requires : tie.Need-obey-requires
-obey-requires c κs = search needs
+execute-requires : tie.Need-execute-requires
+execute-requires c κs = search needs
 
 destination-requires : tie.Need-destination-requires
 destination-requires c κs = search needs
@@ -59,7 +59,7 @@ respond-requires : tie.Need-respond-requires
 respond-requires c κs =
     let o = c .before .before .before .before .before .before in
     let st = o .before .before .before .before .before .before .before .before .before .before .before in
-    fits-served (profileOf (st .args .p)) (view (st .args .s)) _ _ (st .args .flash .now) _ _ _ (st .pre .0) refl (o .obey .kept .1 .1 .1 .1 .1 .0) _ (ap (λ (x : buffered.Seen). x .response) (o .obey .ensures))
+    fits-served (profileOf (st .args .p)) (view (st .args .s)) _ _ (st .args .flash .now) _ _ _ (st .pre .0) refl (o .execute .kept .1 .1 .1 .1 .1 .0) _ (ap (λ (x : buffered.CommandEffect). x .response) (o .execute .ensures))
 
 same-length : tie.Need-same-length
 same-length c = search needs
@@ -78,11 +78,11 @@ returns c =
     let st = h .before .before .before .before in
     let p = st .args .p in
     let f = st .args .frame .now in
-    let place : w .wide .result ≡ commandOf (p .bus) f = w .wide .ensures ∙ ap (λ (n : ℕ). getD f n 0) (h .header-length .ensures) in
+    let place : w .wide .result ≡ commandOf (p .bus) f = w .wide .ensures .0 ∙ ap (λ (n : ℕ). getD f n 0) (h .header-length .ensures) in
     let cut : take (length f - sumLength (p .bus) - (headerLength (p .bus) + 1)) (drop (headerLength (p .bus) + 1) f) ≡ argumentsOf (p .bus) f =
     take-drop (headerLength (p .bus) + 1) (length f - sumLength (p .bus)) f (omega (arith, st .pre .1)) (omega arith) in
-    let acted = rw (h .header-length .ensures, l .sum-length .ensures, place, cut) at (o .obey .ensures) in
-    rw (← t .destination .ensures) (r .respond .ensures (obeyed (profileOf p) (view (st .args .s)) (commandOf (p .bus) f) (argumentsOf (p .bus) f) (st .args .flash .now)) _ (st .args .out .now) (omega arith) acted)
+    let acted = rw (h .header-length .ensures, l .sum-length .ensures, place, cut) at (o .execute .ensures) in
+    rw (← t .destination .ensures) (r .respond .ensures (executed (profileOf p) (view (st .args .s)) (commandOf (p .bus) f) (argumentsOf (p .bus) f) (st .args .flash .now)) _ (st .args .out .now) (omega arith) acted)
 
 pub serve-spec : {M : Type 1} → statement M
 serve-spec =
@@ -94,11 +94,11 @@ serve-spec =
     add-start
     sum-length-requires
     sub-end
-    sub-obey
-    part-obey-start
-    part-obey-end
-    add-obey
-    obey-requires
+    sub-execute
+    part-execute-start
+    part-execute-end
+    add-execute
+    execute-requires
     destination-requires
     respond-requires
     same-length

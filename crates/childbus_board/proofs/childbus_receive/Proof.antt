@@ -50,8 +50,8 @@ returns c =
     (received .receive .ensures)
     (c .if1 .taken)
 
-settle-requires : tie.Need-settle-requires
-settle-requires c κs = search needs
+normalize-requires : tie.Need-normalize-requires
+normalize-requires c κs = search needs
 
 state-to-requires : tie.Need-state-to-requires
 state-to-requires c κs = search needs
@@ -68,8 +68,8 @@ same-length-6 c = search needs
 returns-2 : tie.Need-returns-2
 returns-2 c =
     let written = c .before .before in
-    let settled = written .before .before in
-    let tested = settled .before in
+    let normalized = written .before .before in
+    let tested = normalized .before in
     let number = tested .before in
     let made = number .before in
     let received = made .before .before .before .before .before .before in
@@ -86,7 +86,7 @@ returns-2 c =
     (args .frame .now)
     (received .receive .ensures)
     (tested .if1 .left)
-    (settled .settle .ensures)
+    (normalized .normalize .ensures)
     (written .state-to .ensures)
 
 pub childbus-receive-spec : {M : Type 1} → statement M
@@ -103,7 +103,7 @@ childbus-receive-spec =
     same-length-2
     same-length-3
     returns
-    settle-requires
+    normalize-requires
     state-to-requires
     same-length-4
     same-length-5

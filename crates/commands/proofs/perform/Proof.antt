@@ -52,8 +52,8 @@ revision-requires c κs =
     let st = c .before .before .before .before .before in
     few-fit (st .args .p) (st .args .s) _ _ (st .args .at) 1 (st .pre .0) (omega arith)
 
-say-number-requires : tie.Need-say-number-requires
-say-number-requires c κs =
+reply-number-requires : tie.Need-reply-number-requires
+reply-number-requires c κs =
     let st = c .before .before .before .before .before in
     (omega (arith, st .pre .0 .sound .profile .longest-most), few-fit (st .args .p) (st .args .s) _ _ (st .args .at) 2 (st .pre .0) (omega arith))
 
@@ -157,7 +157,7 @@ returns-10 c =
       ne-eqb _ _ (rest .0 .1),
       ne-eqb _ _ (rest .1),
     )
-    (c .before .before .say-number .ensures (st .args .flash .now))
+    (c .before .before .reply-number .ensures (st .args .flash .now))
 
 pub perform-spec : {M : Type 1} → statement M
 perform-spec =
@@ -172,7 +172,7 @@ perform-spec =
     finalize-requires
     read-requires
     revision-requires
-    say-number-requires
+    reply-number-requires
     same-length
     returns
     same-length-2

@@ -1,4 +1,4 @@
--- `queries::hardware_info` meets its contract, by those of `say` and `two_bytes`. Assumes nothing.
+-- `queries::hardware_info` meets its contract, by those of `reply` and `two_bytes`. Assumes nothing.
 use borrow.Author.Needs.{needs}
 use Rattle.queries.proofs.hardware_info.Statement.{statement}
 use Rattle.queries.proofs.hardware_info.Tie as tie
@@ -12,17 +12,17 @@ array-read-t10 c = search needs
 array-read-t13 : tie.Need-array-read-t13
 array-read-t13 c = search needs
 
-slice-aggregate-say : tie.Need-slice-aggregate-say
-slice-aggregate-say c = search needs
+slice-aggregate-reply : tie.Need-slice-aggregate-reply
+slice-aggregate-reply c = search needs
 
-say-requires : tie.Need-say-requires
-say-requires c κs = search needs
+reply-requires : tie.Need-reply-requires
+reply-requires c κs = search needs
 
 same-length : tie.Need-same-length
 same-length c = search needs
 
 returns : tie.Need-returns
-returns c = λ d. rw (c .before .before .before .before .before .two-bytes .ensures) at (c .before .before .say .ensures d)
+returns c = λ d. rw (c .before .before .before .before .before .two-bytes .ensures) at (c .before .before .reply .ensures d)
 
 pub hardware-info-spec : {M : Type 1} → statement M
 hardware-info-spec =
@@ -31,7 +31,7 @@ hardware-info-spec =
     two-bytes-requires
     array-read-t10
     array-read-t13
-    slice-aggregate-say
-    say-requires
+    slice-aggregate-reply
+    reply-requires
     same-length
     returns)

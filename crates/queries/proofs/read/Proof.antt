@@ -38,11 +38,11 @@ wide-requires-3 c κs = search needs
 add-if1 : tie.Need-add-if1
 add-if1 c = search needs
 
-slice-aggregate-say : tie.Need-slice-aggregate-say
-slice-aggregate-say c = search needs
+slice-aggregate-reply : tie.Need-slice-aggregate-reply
+slice-aggregate-reply c = search needs
 
-say-requires : tie.Need-say-requires
-say-requires c κs =
+reply-requires : tie.Need-reply-requires
+reply-requires c κs =
     let st = c .before .before .before .before .before .before .before .before .before .before .before .before .before in
     few-fit (st .args .p) (st .args .s) _ _ (st .args .at) 0 (st .pre .0) (omega arith)
 
@@ -59,16 +59,16 @@ returns c =
     let st = w1 .before .before .before .before .before in
     let args = st .args .args .now in
     let over : st .args .p .size < getD args 0 0 * 256 + getD args 1 0 + getD args 2 0 = omega (arith, t .if1 .taken, w1 .wide .ensures .0, w2 .wide2 .ensures .0, w3 .wide3 .ensures .0) in
-    rw (lt-leb _ _ over) (c .before .before .say .ensures (st .args .flash .now))
+    rw (lt-leb _ _ over) (c .before .before .reply .ensures (st .args .flash .now))
 
 longest-results-requires : tie.Need-longest-results-requires
 longest-results-requires c κs = search needs
 
-slice-aggregate-say-2 : tie.Need-slice-aggregate-say-2
-slice-aggregate-say-2 c = search needs
+slice-aggregate-reply-2 : tie.Need-slice-aggregate-reply-2
+slice-aggregate-reply-2 c = search needs
 
-say-requires-2 : tie.Need-say-requires-2
-say-requires-2 c κs = search needs
+reply-requires-2 : tie.Need-reply-requires-2
+reply-requires-2 c κs = search needs
 
 same-length-2 : tie.Need-same-length-2
 same-length-2 c = search needs
@@ -87,7 +87,7 @@ returns-2 c =
     omega (arith, e .if1 .left, w1 .wide .ensures .0, w2 .wide2 .ensures .0, w3 .wide3 .ensures .0) in
     let over : st .args .p .longest - shortestReply (st .args .p .bus) < getD args 2 0 =
     omega (arith, t .if2 .taken, t .before .longest-results .ensures, w3 .wide3 .ensures .0) in
-    rw (le-leb _ _ within, lt-leb _ _ over) (c .before .before .say2 .ensures (st .args .flash .now))
+    rw (le-leb _ _ within, lt-leb _ _ over) (c .before .before .reply2 .ensures (st .args .flash .now))
 
 add-start : tie.Need-add-start
 add-start c = search needs
@@ -95,17 +95,17 @@ add-start c = search needs
 add-end : tie.Need-add-end
 add-end c = search needs
 
-sub-say : tie.Need-sub-say
-sub-say c = search needs
+sub-reply : tie.Need-sub-reply
+sub-reply c = search needs
 
-part-say-start : tie.Need-part-say-start
-part-say-start c = search needs
+part-reply-start : tie.Need-part-reply-start
+part-reply-start c = search needs
 
-part-say-end : tie.Need-part-say-end
-part-say-end c = search needs
+part-reply-end : tie.Need-part-reply-end
+part-reply-end c = search needs
 
-say-requires-3 : tie.Need-say-requires-3
-say-requires-3 c κs = search needs
+reply-requires-3 : tie.Need-reply-requires-3
+reply-requires-3 c κs = search needs
 
 same-length-3 : tie.Need-same-length-3
 same-length-3 c = search needs
@@ -127,7 +127,7 @@ returns-3 c =
     let start = st .args .p .offset + (w1 .wide .result * 256 + w2 .wide2 .result) in
     let long : start + w3 .wide3 .result - start ≡ w3 .wide3 .result = omega arith in
     rw (le-leb _ _ within, le-leb _ _ held, ← w1 .wide .ensures .0, ← w2 .wide2 .ensures .0, ← w3 .wide3 .ensures .0)
-    (rw long at (c .before .before .say3 .ensures (st .args .flash .now)))
+    (rw long at (c .before .before .reply3 .ensures (st .args .flash .now)))
 
 pub read-spec : {M : Type 1} → statement M
 read-spec =
@@ -142,20 +142,20 @@ read-spec =
     shared-slice-read-wide-3
     wide-requires-3
     add-if1
-    slice-aggregate-say
-    say-requires
+    slice-aggregate-reply
+    reply-requires
     same-length
     returns
     longest-results-requires
-    slice-aggregate-say-2
-    say-requires-2
+    slice-aggregate-reply-2
+    reply-requires-2
     same-length-2
     returns-2
     add-start
     add-end
-    sub-say
-    part-say-start
-    part-say-end
-    say-requires-3
+    sub-reply
+    part-reply-start
+    part-reply-end
+    reply-requires-3
     same-length-3
     returns-3)

@@ -9,11 +9,11 @@ use borrow.Author.Needs.{needs}
 use Rattle.queries.proofs.serial.Statement.{statement}
 use Rattle.queries.proofs.serial.Tie as tie
 
-slice-aggregate-say : tie.Need-slice-aggregate-say
-slice-aggregate-say c = search needs
+slice-aggregate-reply : tie.Need-slice-aggregate-reply
+slice-aggregate-reply c = search needs
 
-say-requires : tie.Need-say-requires
-say-requires c κs = search needs
+reply-requires : tie.Need-reply-requires
+reply-requires c κs = search needs
 
 same-length : tie.Need-same-length
 same-length c = search needs
@@ -22,7 +22,7 @@ returns : tie.Need-returns
 returns c =
     let st = c .before .before .before .before .before .before .before in
     let p = st .args .p in
-    λ d. rw (length-used (p .seriallen) (p .serial), eq-eqb _ _ (c .before .before .before .before .before .if1 .taken)) (c .before .before .say .ensures d)
+    λ d. rw (length-used (p .seriallen) (p .serial), eq-eqb _ _ (c .before .before .before .before .before .if1 .taken)) (c .before .before .reply .ensures d)
 
 -- the array has all its bytes
 full : (c : tie.After-bytes) → length (c .before .before .before .args .p .serial) ≡ 16
@@ -33,14 +33,14 @@ array-share-prefix-bytes c =
     let h : length (c .before .before .before .args .p .serial) ≡ 16 = search needs in
     omega arith
 
-slice-aggregate-say-2 : tie.Need-slice-aggregate-say-2
-slice-aggregate-say-2 c =
+slice-aggregate-reply-2 : tie.Need-slice-aggregate-reply-2
+slice-aggregate-reply-2 c =
     let p = c .before .before .before .before .args .p in
     let h : length (p .serial) ≡ 16 = search needs in
     sym (length-take-le (p .seriallen) (p .serial) (omega arith))
 
-say-requires-2 : tie.Need-say-requires-2
-say-requires-2 c κs =
+reply-requires-2 : tie.Need-reply-requires-2
+reply-requires-2 c κs =
     let p = c .before .before .before .before .before .args .p in
     let h : length (p .serial) ≡ 16 = search needs in
     simp length-take (omega arith)
@@ -55,18 +55,18 @@ returns-2 c =
     let h : length (p .serial) ≡ 16 = full (c .before .before .before .before .before) in
     λ d.
     rw (length-used (p .seriallen) (p .serial), ne-eqb _ _ (c .before .before .before .before .before .before .if1 .left), used-take (p .seriallen) (p .serial) (omega arith))
-    (c .before .before .say2 .ensures d)
+    (c .before .before .reply2 .ensures d)
 
 pub serial-spec : {M : Type 1} → statement M
 serial-spec =
     tie.close
     (tie.spec
-    slice-aggregate-say
-    say-requires
+    slice-aggregate-reply
+    reply-requires
     same-length
     returns
     array-share-prefix-bytes
-    slice-aggregate-say-2
-    say-requires-2
+    slice-aggregate-reply-2
+    reply-requires-2
     same-length-2
     returns-2)

@@ -1,5 +1,5 @@
 -- `readout::read` meets its contract: refused by the first of 2 to 5 that applies with all untouched, else the last reply. Assumes nothing.
-use Rattle.laws.proofs.StateLaws.{Sound}
+use Rattle.laws.proofs.StateLaws.{Unrefused}
 use Rattle.rules.specs.State.{used}
 use Rattle.rules.specs.Numbers.{laid, refusal}
 use Rattle.answer.proofs.AnsweredLaws.{answered}
@@ -7,7 +7,7 @@ use Rattle.profile.proofs.Laws.{check-passed, check-refused}
 use Rattle.profile.specs.View.{profileOf}
 use Rattle.state.specs.View.{view}
 use Rattle.rules.specs.Board.{readAnswered, nothing}
-use Rattle.laws.proofs.StateLaws.{refusal-sound, used-take, length-used}
+use Rattle.laws.proofs.StateLaws.{refusal-unrefused, used-take, length-used}
 use Rattle.rules.specs.Board.{readOut}
 use Rattle.rules.specs.Bytes.{overlay}
 use borrow.Author.Tests.{eqb-false, eq-eqb, not-true, not-false}
@@ -45,8 +45,8 @@ enum-told c = search needs
 read-answered-requires : tie.Need-read-answered-requires
 read-answered-requires c κs = search needs
 
-quiet-requires : tie.Need-quiet-requires
-quiet-requires c κs = search needs
+no-reply-requires : tie.Need-no-reply-requires
+no-reply-requires c κs = search needs
 
 returns-2 : tie.Need-returns-2
 unfolding readOut
@@ -60,7 +60,7 @@ returns-2 c =
     let d = st .args .flash .now in
     let none = check-passed p s (length d) (length (st .args .out .now)) (sym (f .refuse .ensures) ∙ e .enum-told .given .1) in
     rw (eq-eqb _ _ none, ← t .before .read-answered .ensures, not-true (t .before .read-answered .result) (t .if1 .taken))
-    (answered (st .args .s) _ _ _ _ (nothing s d) (c .quiet .ensures d (st .args .out .now)) (omega arith))
+    (answered (st .args .s) _ _ _ _ (nothing s d) (c .no-reply .ensures d (st .args .out .now)) (omega arith))
 
 -- none of 2 to 5 applies where the last reply is handed out, and its buffer is whole
 none : (c : tie.After-store-arg)
@@ -74,9 +74,9 @@ none c =
     check-passed (profileOf (st .args .p)) (view (st .args .s)) (length (st .args .flash .now)) (length (st .args .out .now)) (sym (f .refuse .ensures) ∙ t .enum-told .given .1)
 
 sound : (c : tie.After-store-arg)
-    → Sound (profileOf (c .before .before .before .before .before .before .before .before .before .args .p)) (view (c .before .before .before .before .before .before .before .before .before .args .s))
+    → Unrefused (profileOf (c .before .before .before .before .before .before .before .before .before .args .p)) (view (c .before .before .before .before .before .before .before .before .before .args .s))
     (length (c .before .before .before .before .before .before .before .before .before .args .flash .now)) (length (c .before .before .before .before .before .before .before .before .before .args .out .now))
-sound c = refusal-sound _ _ _ _ (none c)
+sound c = refusal-unrefused _ _ _ _ (none c)
 
 last-most : (c : tie.After-store-arg)
     → c .before .before .before .before .before .before .before .before .before .args .s .last .len ≤ c .before .before .before .before .before .before .before .before .before .args .p .longest
@@ -134,7 +134,7 @@ read-spec =
     returns
     enum-told
     read-answered-requires
-    quiet-requires
+    no-reply-requires
     returns-2
     array-share-prefix-bytes
     slice-aggregate-store

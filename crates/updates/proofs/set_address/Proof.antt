@@ -5,15 +5,15 @@ use borrow.Author.Needs.{needs}
 use Rattle.updates.proofs.set_address.Statement.{statement}
 use Rattle.updates.proofs.set_address.Tie as tie
 
-shared-slice-read-type-heard : tie.Need-shared-slice-read-type-heard
-shared-slice-read-type-heard c = search needs
+shared-slice-read-type-matches : tie.Need-shared-slice-read-type-matches
+shared-slice-read-type-matches c = search needs
 
-type-heard-requires : tie.Need-type-heard-requires
-type-heard-requires c κs = search needs
+type-matches-requires : tie.Need-type-matches-requires
+type-matches-requires c κs = search needs
 
 returns : tie.Need-returns
 unfolding setAddress
-returns c = λ d. rw (← c .before .type-heard .ensures, not-true (c .before .type-heard .result) (c .if1 .taken))
+returns c = λ d. rw (← c .before .type-matches .ensures, not-true (c .before .type-matches .result) (c .if1 .taken))
 
 shared-slice-read-address-taken : tie.Need-shared-slice-read-address-taken
 shared-slice-read-address-taken c = search needs
@@ -24,11 +24,11 @@ address-taken-requires c κs = search needs
 with-address-requires : tie.Need-with-address-requires
 with-address-requires c κs = search needs
 
-slice-aggregate-say : tie.Need-slice-aggregate-say
-slice-aggregate-say c = search needs
+slice-aggregate-reply : tie.Need-slice-aggregate-reply
+slice-aggregate-reply c = search needs
 
-say-requires : tie.Need-say-requires
-say-requires c κs = search needs
+reply-requires : tie.Need-reply-requires
+reply-requires c κs = search needs
 
 same-length : tie.Need-same-length
 same-length c = search needs
@@ -41,20 +41,20 @@ returns-2 c =
     let e = a .before .before in
     let h = e .before in
     λ d.
-    rw (← h .type-heard .ensures, not-false (h .type-heard .result) (e .if1 .left), ← a .address-taken .ensures)
-    (rw (w .with-address .ensures) at (c .before .before .say .ensures d))
+    rw (← h .type-matches .ensures, not-false (h .type-matches .result) (e .if1 .left), ← a .address-taken .ensures)
+    (rw (w .with-address .ensures) at (c .before .before .reply .ensures d))
 
 pub set-address-spec : {M : Type 1} → statement M
 set-address-spec =
     tie.close
     (tie.spec
-    shared-slice-read-type-heard
-    type-heard-requires
+    shared-slice-read-type-matches
+    type-matches-requires
     returns
     shared-slice-read-address-taken
     address-taken-requires
     with-address-requires
-    slice-aggregate-say
-    say-requires
+    slice-aggregate-reply
+    reply-requires
     same-length
     returns-2)

@@ -1,5 +1,5 @@
 -- `upload::finalize` meets its contract: nothing waiting leaves all as it is, else the waiting bytes lie in one page and are committed there.
--- By `finalized-none`, `finalized-some` and `committed-settled`. Assumes nothing.
+-- By `finalized-none`, `finalized-some` and `committed-counted`. Assumes nothing.
 use mathlib.Core.Path.{_≡_, refl, sym, _∙_}
 use native.Mathlib.Omega.{arith}
 use lib.ListN.{length, length-take}
@@ -7,7 +7,7 @@ use borrow.Author.Needs.{needs}
 use Rattle.laws.proofs.UploadLaws.{sub-mod}
 use Rattle.state.specs.View.{page}
 use Rattle.profile.specs.View.{profileOf}
-use Rattle.upload.proofs.Laws.{ready-bounds, fitting, committed-settled, finalized-none, finalized-some, finalized-formed}
+use Rattle.upload.proofs.Laws.{ready-bounds, fitting, committed-counted, finalized-none, finalized-some, finalized-formed}
 use Rattle.upload.proofs.finalize.Statement.{statement}
 use Rattle.upload.proofs.finalize.Tie as tie
 
@@ -19,13 +19,13 @@ returns c =
       record { formed = start .pre .formed; next-is = refl },
     )
 
-sub-settle : tie.Need-sub-settle
-sub-settle c =
+sub-commit-counted : tie.Need-sub-commit-counted
+sub-commit-counted c =
     let b = ready-bounds (c .before .before .before .before .pre) in
     omega arith
 
-add-settle : tie.Need-add-settle
-add-settle c =
+add-commit-counted : tie.Need-add-commit-counted
+add-commit-counted c =
     let b = ready-bounds (c .before .before .before .before .pre) in
     omega arith
 
@@ -36,15 +36,15 @@ array-share-prefix-waiting c =
     let h : length (start .args .u .waiting) ≡ page = search needs in
     omega arith
 
-slice-aggregate-settle : tie.Need-slice-aggregate-settle
-slice-aggregate-settle c =
+slice-aggregate-commit-counted : tie.Need-slice-aggregate-commit-counted
+slice-aggregate-commit-counted c =
     let start = c .before .before .before .before .before in
     let b = ready-bounds (start .pre) in
     let h : length (start .args .u .waiting) ≡ page = search needs in
     simp length-take (omega arith)
 
-settle-requires : tie.Need-settle-requires
-settle-requires c κs =
+commit-counted-requires : tie.Need-commit-counted-requires
+commit-counted-requires c κs =
     let start = c .before .before .before .before .before in
     let b = ready-bounds (start .pre) in
     let h : length (start .args .u .waiting) ≡ page = search needs in
@@ -64,7 +64,7 @@ returns-2 c =
     let place = sub-mod page (u .next) (u .held) (omega arith) (b .held .held-most) in
     let lies = fitting p u d (b .profile) (start .pre .flash-holds) (b .held .next-most) (omega arith) (omega arith) in
     let h : length (u .waiting) ≡ page = search needs in
-    let done = sym (finalized-some (profileOf p) u d some ∙ committed-settled p u lies (omega arith) (c .before .before .settle .ensures)) in
+    let done = sym (finalized-some (profileOf p) u d some ∙ committed-counted p u lies (omega arith) (c .before .before .commit-counted .ensures)) in
     (done, finalized-formed d (start .pre) _ done)
 
 pub finalize-spec : {M : Type 1} → statement M
@@ -72,10 +72,10 @@ finalize-spec =
     tie.close
     (tie.spec
     returns
-    sub-settle
-    add-settle
+    sub-commit-counted
+    add-commit-counted
     array-share-prefix-waiting
-    slice-aggregate-settle
-    settle-requires
+    slice-aggregate-commit-counted
+    commit-counted-requires
     same-length
     returns-2)

@@ -1,4 +1,4 @@
--- `upload::take` meets its contract. Invariant: `Reached`, where the first i bytes lead. A turn takes a part that lies in one page, by `turn-joined`
+-- `upload::take` meets its contract. Invariant: `Reached`, where the first i bytes lead. A turn takes a part that lies in one page, by `turn-appended`
 -- or `turn-committed`. Assumes nothing.
 use Prim.Native.Nat.{_-_}
 use native.Mathlib.Omega.{arith}
@@ -6,7 +6,7 @@ use lib.ListN.{length, length-take, length-drop}
 use lib.Seq.{take-all}
 use borrow.Author.Needs.{needs}
 use Rattle.upload.proofs.Laws.{taken-formed}
-use Rattle.upload.proofs.Turns.{Reached, reached-none, turn-joined, turn-committed}
+use Rattle.upload.proofs.Turns.{Reached, reached-none, turn-appended, turn-committed}
 use Rattle.upload.proofs.take.Statement.{statement}
 use Rattle.upload.proofs.take.Tie as tie
 
@@ -53,20 +53,20 @@ add-next c = omega arith
 add-held : tie.Need-add-held Inv-loop μ-loop
 add-held c = omega arith
 
-sub-settle : tie.Need-sub-settle Inv-loop μ-loop
-sub-settle c = omega arith
+sub-commit-counted : tie.Need-sub-commit-counted Inv-loop μ-loop
+sub-commit-counted c = omega arith
 
-add-settle : tie.Need-add-settle Inv-loop μ-loop
-add-settle c = omega arith
+add-commit-counted : tie.Need-add-commit-counted Inv-loop μ-loop
+add-commit-counted c = omega arith
 
 array-share-prefix-waiting : tie.Need-array-share-prefix-waiting Inv-loop μ-loop
 array-share-prefix-waiting c = omega arith
 
-slice-aggregate-settle : tie.Need-slice-aggregate-settle Inv-loop μ-loop
-slice-aggregate-settle c = simp length-take (omega arith)
+slice-aggregate-commit-counted : tie.Need-slice-aggregate-commit-counted Inv-loop μ-loop
+slice-aggregate-commit-counted c = simp length-take (omega arith)
 
-settle-requires : tie.Need-settle-requires Inv-loop μ-loop
-settle-requires c κs = simp length-take (omega arith)
+commit-counted-requires : tie.Need-commit-counted-requires Inv-loop μ-loop
+commit-counted-requires c κs = simp length-take (omega arith)
 
 loop-less : tie.Need-loop-less Inv-loop μ-loop
 loop-less c = omega arith
@@ -78,7 +78,7 @@ loop-again c =
     let at-loop = stored .before .before .before .before .before in
     let pre = at-loop .before .before .before .before .pre in
     let part = stored .before .before .before .part .ensures in
-    turn-committed (pre .0) (pre .1) (at-loop .loop .inv) part (stored .store .ensures) (test .if1 .taken) (c .before .before .settle .ensures)
+    turn-committed (pre .0) (pre .1) (at-loop .loop .inv) part (stored .store .ensures) (test .if1 .taken) (c .before .before .commit-counted .ensures)
 
 loop-less-2 : tie.Need-loop-less-2 Inv-loop μ-loop
 loop-less-2 c = omega arith
@@ -89,7 +89,7 @@ loop-again-2 c =
     let at-loop = stored .before .before .before .before .before in
     let pre = at-loop .before .before .before .before .pre in
     let part = stored .before .before .before .part .ensures in
-    turn-joined (pre .0) (pre .1) (at-loop .loop .inv) part (stored .store .ensures) (c .if1 .left)
+    turn-appended (pre .0) (pre .1) (at-loop .loop .inv) part (stored .store .ensures) (c .if1 .left)
 
 same-length : tie.Need-same-length Inv-loop μ-loop
 same-length c = search needs
@@ -119,11 +119,11 @@ take-spec =
     store-requires
     add-next
     add-held
-    sub-settle
-    add-settle
+    sub-commit-counted
+    add-commit-counted
     array-share-prefix-waiting
-    slice-aggregate-settle
-    settle-requires
+    slice-aggregate-commit-counted
+    commit-counted-requires
     loop-less
     loop-again
     loop-less-2

@@ -1,4 +1,4 @@
--- `upload_commands::finalize` meets its contract, by those of `upload::finalize` and `response::say_number`. Assumes nothing.
+-- `upload_commands::finalize` meets its contract, by those of `upload::finalize` and `response::reply_number`. Assumes nothing.
 use Rattle.upload_commands.proofs.Laws.{ready, upload-formed, count-most}
 use Rattle.response.proofs.Laws.{few-fit}
 use Rattle.rules.specs.Commands.{finished}
@@ -15,8 +15,8 @@ finalize-requires c κs =
 with-upload-requires : tie.Need-with-upload-requires
 with-upload-requires c κs = search needs
 
-say-number-requires : tie.Need-say-number-requires
-say-number-requires c κs =
+reply-number-requires : tie.Need-reply-number-requires
+reply-number-requires c κs =
     let f = c .before .before .before .before in
     let st = f .before .before .before .before .before in (
       count-most (st .args .p) (st .args .s) _ _ (st .args .at) (st .pre) (f .finalize .result) _ (f .finalize .ensures .1),
@@ -34,7 +34,7 @@ unfolding finished
 returns c =
     let w = c .before .before .before .before in
     let f = w .before .before .before in
-    rw (← f .finalize .ensures .0) (rw (w .with-upload .ensures) at (c .before .before .say-number .ensures (f .finalize .last .1 .1 .0)))
+    rw (← f .finalize .ensures .0) (rw (w .with-upload .ensures) at (c .before .before .reply-number .ensures (f .finalize .last .1 .1 .0)))
 
 pub finalize-spec : {M : Type 1} → statement M
 finalize-spec =
@@ -42,7 +42,7 @@ finalize-spec =
     (tie.spec
     finalize-requires
     with-upload-requires
-    say-number-requires
+    reply-number-requires
     same-length
     same-length-2
     returns)

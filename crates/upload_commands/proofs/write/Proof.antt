@@ -1,6 +1,6 @@
 -- `upload_commands::write` meets its contract: its test is `accepted`, and an accepted write is taken by `upload::take`. Assumes nothing.
-use Rattle.upload_commands.proofs.Laws.{take-rest, ready, upload-formed, begun-formed, accepted-fits}
-use Rattle.rules.specs.Commands.{accepted, begun, written}
+use Rattle.upload_commands.proofs.Laws.{take-rest, ready, upload-formed, restarted-formed, accepted-fits}
+use Rattle.rules.specs.Commands.{accepted, restarted, written}
 use borrow.Author.Tests.{not-true, not-false}
 use Rattle.response.proofs.Laws.{few-fit}
 use Rattle.upload.specs.Progress.{progressOf}
@@ -51,11 +51,11 @@ accepts-requires c κs =
     let st = a .before .before .before .before .before .before .before in
     simp (length-take, length-drop) (omega (arith, a .wide2 .ensures .1, a .before .before .wide .ensures .1, st .good .1 .1 .0 .1))
 
-slice-aggregate-say : tie.Need-slice-aggregate-say
-slice-aggregate-say c = search needs
+slice-aggregate-reply : tie.Need-slice-aggregate-reply
+slice-aggregate-reply c = search needs
 
-say-requires : tie.Need-say-requires
-say-requires c κs =
+reply-requires : tie.Need-reply-requires
+reply-requires c κs =
     let st = c .before .before .before .before .before .before .before .before .before .before .before .before .before in
     few-fit (st .args .p) (st .args .s) _ _ (st .args .at) 0 (st .pre .0) (omega arith)
 
@@ -74,10 +74,10 @@ returns c =
     let s = st .args .s in
     let no : accepted (st .args .p .size) (s .upload .next) (numberAt args 0) (length (drop 2 args)) ≡ false =
     rw (take-rest args 2, w1 .wide .ensures .0, w2 .wide2 .ensures .0) at (sym (a .accepts .ensures) ∙ not-true (a .accepts .result) (t .if1 .taken)) in
-    rw no (c .before .before .say .ensures (st .args .flash .now))
+    rw no (c .before .before .reply .ensures (st .args .flash .now))
 
-begin-requires : tie.Need-begin-requires
-begin-requires c κs = search needs
+restart-requires : tie.Need-restart-requires
+restart-requires c κs = search needs
 
 take-requires : tie.Need-take-requires
 take-requires c κs =
@@ -93,18 +93,18 @@ take-requires c κs =
     let many = length (take (length args - 2) (drop 2 args)) in
     let yes : accepted (p .size) (s .upload .next) address many ≡ true = sym (a .accepts .ensures) ∙ not-false (a .accepts .result) (b .before .if1 .left) in
     let formed = upload-formed p s _ _ (st .args .at) (st .pre .0) in (
-      ready p s _ _ (st .args .at) (st .pre .0) (b .begin .result) (rw (b .begin .ensures) (begun-formed page (p .size) address (uploadOf (s .upload)) formed)),
-      rw (ap (λ u. u .next) (b .begin .ensures)) (accepted-fits (p .size) address many (uploadOf (s .upload)) yes),
+      ready p s _ _ (st .args .at) (st .pre .0) (b .restart .result) (rw (b .restart .ensures) (restarted-formed page (p .size) address (uploadOf (s .upload)) formed)),
+      rw (ap (λ u. u .next) (b .restart .ensures)) (accepted-fits (p .size) address many (uploadOf (s .upload)) yes),
     )
 
 with-upload-requires : tie.Need-with-upload-requires
 with-upload-requires c κs = search needs
 
-slice-aggregate-say-2 : tie.Need-slice-aggregate-say-2
-slice-aggregate-say-2 c = search needs
+slice-aggregate-reply-2 : tie.Need-slice-aggregate-reply-2
+slice-aggregate-reply-2 c = search needs
 
-say-requires-2 : tie.Need-say-requires-2
-say-requires-2 c κs =
+reply-requires-2 : tie.Need-reply-requires-2
+reply-requires-2 c κs =
     let st = c .before .before .before .before .before .before .before .before .before .before .before .before .before .before .before .before .before .before .before in
     few-fit (st .args .p) (st .args .s) _ _ (st .args .at) 0 (st .pre .0) (omega arith)
 
@@ -129,9 +129,9 @@ returns-2 c =
     let yes : accepted (st .args .p .size) (s .upload .next) (numberAt args 0) (length (drop 2 args)) ≡ true =
     rw (take-rest args 2, w1 .wide .ensures .0, w2 .wide2 .ensures .0) at (sym (a .accepts .ensures) ∙ not-false (a .accepts .result) (b .before .if1 .left)) in
     let g : progressOf (t .take .result) (t .take .last .1 .1 .1 .0)
-    ≡ takenAll (profileOf (st .args .p)) (record { upload = begun (numberAt args 0) (uploadOf (s .upload)); flash = st .args .flash .now }) (drop 2 args) =
-    rw (take-rest args 2, b .begin .ensures, w1 .wide .ensures .0, w2 .wide2 .ensures .0) at (t .take .ensures .0) in
-    rw (yes, ← g) (rw (w .with-upload .ensures) at (c .before .before .say2 .ensures (t .take .last .1 .1 .1 .0)))
+    ≡ takenAll (profileOf (st .args .p)) (record { upload = restarted (numberAt args 0) (uploadOf (s .upload)); flash = st .args .flash .now }) (drop 2 args) =
+    rw (take-rest args 2, b .restart .ensures, w1 .wide .ensures .0, w2 .wide2 .ensures .0) at (t .take .ensures .0) in
+    rw (yes, ← g) (rw (w .with-upload .ensures) at (c .before .before .reply2 .ensures (t .take .last .1 .1 .1 .0)))
 
 pub write-spec : {M : Type 1} → statement M
 write-spec =
@@ -147,15 +147,15 @@ write-spec =
     part-bytes-start
     part-bytes-end
     accepts-requires
-    slice-aggregate-say
-    say-requires
+    slice-aggregate-reply
+    reply-requires
     same-length
     returns
-    begin-requires
+    restart-requires
     take-requires
     with-upload-requires
-    slice-aggregate-say-2
-    say-requires-2
+    slice-aggregate-reply-2
+    reply-requires-2
     same-length-2
     same-length-3
     returns-2)

@@ -32,8 +32,8 @@ returns-4 c =
     let e = s .before in
     rw (le-ltb _ _ (e .before .if1 .left), le-ltb _ _ (e .if2 .left), ← s .sum-right .ensures, not-false (s .sum-right .result) (c .before .before .if3 .left), eq-eqb _ _ (c .if4 .taken))
 
-hears-requires : tie.Need-hears-requires
-hears-requires c κs = search needs
+addressed-requires : tie.Need-addressed-requires
+addressed-requires c κs = search needs
 
 returns-5 : tie.Need-returns-5
 unfolding framing
@@ -47,8 +47,8 @@ returns-5 c =
       ← s .sum-right .ensures,
       not-false (s .sum-right .result) (g .before .before .if3 .left),
       ne-eqb _ _ (g .if4 .left),
-      ← c .before .hears .ensures,
-      not-true (c .before .hears .result) (c .if5 .taken),
+      ← c .before .addressed .ensures,
+      not-true (c .before .addressed .result) (c .if5 .taken),
     )
 
 returns-6 : tie.Need-returns-6
@@ -63,8 +63,8 @@ returns-6 c =
       ← s .sum-right .ensures,
       not-false (s .sum-right .result) (g .before .before .if3 .left),
       ne-eqb _ _ (g .if4 .left),
-      ← c .before .hears .ensures,
-      not-false (c .before .hears .result) (c .if5 .left),
+      ← c .before .addressed .ensures,
+      not-false (c .before .addressed .result) (c .if5 .left),
     )
 
 pub rs485-framing-spec : {M : Type 1} → statement M
@@ -77,6 +77,6 @@ rs485-framing-spec =
     returns-3
     shared-slice-read-to
     returns-4
-    hears-requires
+    addressed-requires
     returns-5
     returns-6)

@@ -61,7 +61,7 @@ returns-3 c =
       known .if1 .left,
       le-ltb _ _ (long .if2 .left),
       ← header .header-length .ensures,
-      ← count .wide .ensures,
+      ← count .wide .ensures .0,
       ← c .before .length-right .ensures,
       c .if3 .taken,
     ))
@@ -72,7 +72,7 @@ open-reply-requires c κs =
     let count = c .before .before in
     let header = count .before .before in
     let start = header .before .before .before .before .before .before in
-    let is-count : count .wide .result ≡ countOf (start .args .bus) (start .args .reply .now) = rw (← header .header-length .ensures) (count .wide .ensures) in
+    let is-count : count .wide .result ≡ countOf (start .args .bus) (start .args .reply .now) = rw (← header .header-length .ensures) (count .wide .ensures .0) in
     (is-count, lengthRight-le (start .args .bus) _ _ (sym (c .before .length-right .ensures) ∙ not-false _ (c .if3 .left)))
 
 returns-4 : tie.Need-returns-4
@@ -88,7 +88,7 @@ returns-4 c =
       known .if1 .left,
       le-ltb _ _ (rw (long .before .shortest-reply .ensures) at (long .if2 .left)),
       ← header .header-length .ensures,
-      ← count .wide .ensures,
+      ← count .wide .ensures .0,
       ← fits .before .length-right .ensures,
       fits .if3 .left,
     )

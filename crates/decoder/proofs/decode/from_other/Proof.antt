@@ -19,7 +19,7 @@ returns : tie.Need-returns
 returns c = search needs
 
 returns-2 : tie.Need-returns-2
-returns-2 c = rw (c .before .before .enum-told2 .given .1, c .wide .ensures)
+returns-2 c = rw (c .before .before .enum-told2 .given .1, c .wide .ensures .0)
 
 pub from-other-spec : {M : Type 1} → statement M
 from-other-spec =

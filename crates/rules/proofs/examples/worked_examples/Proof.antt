@@ -6,18 +6,18 @@ use Rattle.rules.specs.Profile.{inRange}
 use Rattle.rules.specs.State.{uploadFormed, wellFormed}
 use Rattle.rules.specs.Numbers.{refusal}
 use Rattle.rules.specs.CheckSums.{bit, byte, run, sum, sealed, sumRight}
-use Rattle.rules.specs.Frames.{request, reply, resetFrame, resetAddressFrame, hears, framing, verdict}
+use Rattle.rules.specs.Frames.{request, reply, resetFrame, resetAddressFrame, addressed, framing, verdict}
 use Rattle.rules.specs.Commit.{committed, taken, takenAll, finalized}
-use Rattle.rules.specs.Commands.{tabled, setAddress, written, finished, shown, performed, obeyed}
-use Rattle.rules.specs.Board.{judged, received}
+use Rattle.rules.specs.Commands.{tabled, setAddress, written, finished, shown, performed, executed}
+use Rattle.rules.specs.Board.{handled, received}
 use Rattle.rules.specs.Examples.{disagreeing, rows, sentTo, seventy, uploaded, full, over}
 use Rattle.rules.proofs.examples.worked_examples.Statement.{statement}
 use Rattle.rules.proofs.examples.worked_examples.Tie as tie
 
 rows-agree : disagreeing rows ≡ []
 unfolding same overlay inRange uploadFormed wellFormed refusal
-    bit byte run sum sealed sumRight request reply resetFrame resetAddressFrame hears framing verdict
-    committed taken takenAll finalized tabled setAddress written finished shown performed obeyed judged received
+    bit byte run sum sealed sumRight request reply resetFrame resetAddressFrame addressed framing verdict
+    committed taken takenAll finalized tabled setAddress written finished shown performed executed handled received
     disagreeing rows sentTo seventy uploaded full over
 rows-agree = refl
 

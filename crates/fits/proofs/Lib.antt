@@ -1,9 +1,0 @@
-pub mod Made
-pub mod Requests
-pub mod Spoken
-pub mod Replies
-pub mod Exchange
-pub mod Encodes
-pub mod Written
-pub mod Shown
-pub mod Uploads

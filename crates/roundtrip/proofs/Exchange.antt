@@ -1,0 +1,108 @@
+-- One request and its answer, as a talk has them: a command that says OK and keeps the address is answered OK with its results, and leaves the board
+-- ready for the next. By the statements on requests and replies; on I²C the answer is read at the same address. Assumes nothing.
+use mathlib.Core.Path.{_≡_, refl, sym, subst, _∙_}
+use mathlib.Core.Bool.{true}
+use mathlib.Core.List.{List}
+use Prim.Native.Nat.{ℕ}
+use native.Mathlib.Omega.{arith}
+use lib.ListN.{length, getD}
+use Rattle.rules.specs.declared.kinds.Bus.{Bus}
+use Rattle.rules.specs.declared.kinds.Bus.the-variants.{I2c, Rs485}
+use Rattle.rules.specs.State.{Upload}
+use Rattle.rules.specs.Frames.{addressed, reply}
+use Rattle.rules.specs.Commands.{Reply, Acted, withUpload, performed, ok}
+use Rattle.rules.specs.Board.{withLast}
+use Rattle.laws.proofs.StateLaws.{Unrefused, refusal-unrefused, unrefused-refusal}
+use Rattle.laws.proofs.BoardLaws.{FormedCall, received-formed-call, withLast-upload}
+use Rattle.roundtrip.specs.Sending.{Sending, Instruction, Commands, Given, Beside, AddressedBy, target, bus, encoding, frame, call, instruction}
+use Rattle.roundtrip.specs.Understood.{TakenAs, Understood}
+use Rattle.roundtrip.specs.ReadBack.{Answered, ResponseRead, Replied}
+use Rattle.roundtrip.specs.Exchanges.{Line, Board, Ready, Message, sending, fetched, answer, after, codeSent, lengthSent, results, Ok}
+use Rattle.roundtrip.proofs.Requests.{given-understood}
+use Rattle.roundtrip.proofs.Replies.{withLast-running, withLast-address, replies-read}
+
+pub beside-self : (b : Bus) (a : ℕ) → Beside b a a
+beside-self I2c a = refl
+beside-self Rs485 a = tt
+
+-- a request was answered OK with these results, and the board, ready for the next, has this upload and this flash
+pub record Exchanged (l : Line) (x : Sending) (u : Upload) (d said : List ℕ) : Type 0 where
+  pub answered-ok : Ok x
+  pub results-are : results x ≡ said
+  pub upload-is : after x .state .upload ≡ u
+  pub flash-is : after x .flash ≡ d
+  pub ready : Ready l (after x)
+
+module _ (l : Line) (b : Board) (ready : Ready l b) (m : Message) where
+  abbrev x : Sending
+  x = sending l b m
+
+  abbrev code : ℕ
+  code = codeSent (m .request)
+
+  sound : Unrefused (l .profile) (b .state) (length (b .flash)) (l .buffer)
+  sound = refusal-unrefused (l .profile) (b .state) (length (b .flash)) (l .buffer) (ready .none-refused)
+
+  orderly : FormedCall (l .profile) (b .flash) (call x)
+  orderly = received-formed-call (l .profile) (b .state) (b .flash) (l .to) (frame x) (l .buffer) (sound .well-formed)
+
+  module _ (arguments said : List ℕ) (u : Upload) (d : List ℕ) (made : encoding x .number ≡ 0) (taken : TakenAs x code arguments)
+      (replying : ResponseRead x code arguments (lengthSent (m .request)) (performed (l .profile) (b .state) code arguments (b .flash) .response))
+      (acts : performed (l .profile) (b .state) code arguments (b .flash) ≡ record { response = Reply ok said; state = withUpload (b .state) u; flash = d }) where
+    answered : Answered x code arguments (lengthSent (m .request)) ok said
+    answered = subst (λ (a : Acted). ResponseRead x code arguments (lengthSent (m .request)) (a .response)) acts replying
+
+    abbrev sent : List ℕ
+    sent = reply (bus x) (l .to) ok said
+
+    called : call x ≡ record { number = 0; reply = sent; state = withLast (bus x) (withUpload (b .state) u) sent; flash = d }
+    called = taken .call-is ∙ rw acts
+
+    addressed-next : addressed (bus x) (call x .state .address) (l .to) ≡ true
+    addressed-next = rw (called, withLast-address (bus x) (withUpload (b .state) u) sent) (ready .heard)
+
+    fetched-call : (k : Bus) → bus x ≡ k → fetched k x ≡ call x
+    fetched-call I2c i =
+        answered .read-out i .read (l .to) (l .buffer) (subst (λ (k : Bus). addressed k (call x .state .address) (l .to) ≡ true) i addressed-next) (sound .buffer-holds)
+    fetched-call Rs485 i = refl
+
+    answer-call : answer x ≡ call x
+    answer-call = fetched-call (bus x) refl
+
+    left-ready : Ready l (after x)
+    left-ready = record {
+      none-refused =
+          rw answer-call
+          (unrefused-refusal (l .profile) (call x .state) (length (call x .flash)) (l .buffer) (sound .in-range) (orderly .well-formed)
+          (omega (arith, sound .flash-holds, orderly .flash-length)) (sound .buffer-holds));
+      stopped = rw (answer-call, called, withLast-running (bus x) (withUpload (b .state) u) sent) (ready .stopped);
+      heard = rw answer-call addressed-next;
+      byte = ready .byte;
+    }
+
+    exchanged : Exchanged l x u d said
+    exchanged = record {
+      answered-ok = record { made = made; decodes = rw (answer-call, answered .reads .decoding-is); status-ok = rw (answer-call, answered .reads .decoding-is) };
+      results-are = rw answer-call (answered .reads .results-are);
+      upload-is = rw (answer-call, called) (withLast-upload (bus x) (withUpload (b .state) u) sent);
+      flash-is = rw (answer-call, called);
+      ready = left-ready;
+    }
+
+  given : encoding x .number ≡ 0 → (arguments : List ℕ) → instruction x ≡ Commands code arguments → Given x
+  given made arguments is = record {
+    made = made;
+    sent = subst (λ (a : Instruction). Beside (bus x) (l .to) (target (l .to) a)) (sym is) (beside-self (bus x) (l .to));
+    none-refused = ready .none-refused;
+    heard = subst (λ (a : Instruction). AddressedBy (l .profile) (b .state) (l .to) a) (sym is) (ready .stopped, ready .heard);
+  }
+
+  -- a command that says OK, and keeps address and running
+  pub exchange : (arguments said : List ℕ) (u : Upload) (d : List ℕ) → encoding x .number ≡ 0 → instruction x ≡ Commands code arguments
+      → (code ≡ 0x08 → lengthSent (m .request) ≡ getD arguments 2 0)
+      → performed (l .profile) (b .state) code arguments (b .flash) ≡ record { response = Reply ok said; state = withUpload (b .state) u; flash = d }
+      → Exchanged l x u d said
+  exchange arguments said u d made is read-length acts =
+      let all : Given x = given made arguments is in
+      exchanged arguments said u d made (subst (Understood x) is (given-understood x all))
+      (subst (Replied x) is (replies-read x all) (lengthSent (m .request)) read-length) acts

@@ -1,0 +1,9 @@
+pub mod Made
+pub mod Requests
+pub mod Responded
+pub mod Replies
+pub mod Exchange
+pub mod Encodes
+pub mod Written
+pub mod Shown
+pub mod Uploads

@@ -1,0 +1,20 @@
+// The two halves fit, stated where a reader meets it. The functions do nothing.
+ghost use Rattle.roundtrip.specs.Understood.{RequestsUnderstood};
+ghost use Rattle.roundtrip.specs.ReadBack.{RepliesRead};
+ghost use Rattle.roundtrip.specs.UploadRoundtrip.{UploadRoundtrip};
+
+// Every request that the encoder makes is taken by a board that hears it as that very command with those very arguments.
+pub fn requests_understood()
+    ensures { λ _. ⌜ RequestsUnderstood ⌝ }
+{}
+
+// Every reply to such a request decodes to exactly the status and results that the board's rule says, and never to a refusal.
+pub fn replies_read()
+    ensures { λ _. ⌜ RepliesRead ⌝ }
+{}
+
+// An image of 1 to S bytes, written from zero in frames of any allowed lengths and finalized, is answered OK all along, stands in flash
+// with every other byte as before, and reads back as its own bytes.
+pub fn upload_roundtrip()
+    ensures { λ _. ⌜ UploadRoundtrip ⌝ }
+{}
