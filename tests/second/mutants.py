@@ -15,7 +15,7 @@ import tempfile
 from concurrent.futures import ThreadPoolExecutor
 
 HERE = os.path.dirname(os.path.abspath(__file__))
-RULES = ["model", "sums", "board", "master", "script", "book", "check", "rng", "total"]
+RULES = ["model", "sums", "board", "master", "script", "ledger", "check", "rng", "total"]
 SECONDS = 60
 WORKERS = 2
 
@@ -31,7 +31,7 @@ fn main() {
 }
 """
 CHECK_MAIN = """#![allow(dead_code)]
-mod board; mod book; mod check; mod master; mod model; mod rng; mod sums; mod total;
+mod board; mod ledger; mod check; mod master; mod model; mod rng; mod sums; mod total;
 fn main() {
     if let Err(message) = check::all(3000, 3) {
         println!("{message}");
@@ -218,20 +218,20 @@ MUTANTS = [
     ("master", "higher minor not known", "2 => Ok((2, minor.min(2)))", "2 if minor <= 2 => Ok((2, minor))"),
     ("master", "version 0 known", "        _ => Err(14),", "        0 => Ok((0, minor)),\n        _ => Err(14),"),
     # ledger
-    ("book", "earlier copy not taken", "        self.earlier = self.copy.clone();\n", ""),
-    ("book", "count kept at a write at 0", "        self.count = 0;\n        self.f = 0;\n    }", "        self.f = 0;\n    }"),
-    ("book", "f kept at a write at 0", "        self.f = 0;\n    }", "    }"),
-    ("book", "committed kept", "        self.committed = 0;\n        self.count = 0;", "        self.count = 0;"),
-    ("book", "no commit at page ends", "self.accepted.len() % PAGE_BYTES == 0", "self.accepted.len() % (2 * PAGE_BYTES) == 0"),
-    ("book", "every commit counted", "        if changed {", "        if changed || self.committed > 0 {"),
-    ("book", "finalize commits nothing", "            self.f += 1;\n            self.commit(p);", "            self.f += 1;"),
-    ("book", "f not counted", "            self.f += 1;\n", ""),
-    ("book", "offset forgotten", "p.o as usize + place", "place"),
-    ("book", "refused writes accepted", "number != 0 || reply.get(skip) != Some(&0) ||", "number != 0 ||"),
-    ("book", "reset while refused", "if reset && number == 1 {", "if reset {"),
-    ("book", "I2C reset at any address", "address == 0 && frame == [0x06]", "frame == [0x06]"),
-    ("book", "reset address taken for reset", "[0x00, 0x46, 0x80, 0x42]", "[0x00, 0x44, 0x01, 0x83]"),
-    ("book", "write at 0 goes on", "        if address == 0 {\n            self.begin();\n        }\n", ""),
+    ("ledger", "earlier copy not taken", "        self.earlier = self.copy.clone();\n", ""),
+    ("ledger", "count kept at a write at 0", "        self.count = 0;\n        self.f = 0;\n    }", "        self.f = 0;\n    }"),
+    ("ledger", "f kept at a write at 0", "        self.f = 0;\n    }", "    }"),
+    ("ledger", "committed kept", "        self.committed = 0;\n        self.count = 0;", "        self.count = 0;"),
+    ("ledger", "no commit at page ends", "self.accepted.len() % PAGE_BYTES == 0", "self.accepted.len() % (2 * PAGE_BYTES) == 0"),
+    ("ledger", "every commit counted", "        if changed {", "        if changed || self.committed > 0 {"),
+    ("ledger", "finalize commits nothing", "            self.f += 1;\n            self.commit(p);", "            self.f += 1;"),
+    ("ledger", "f not counted", "            self.f += 1;\n", ""),
+    ("ledger", "offset forgotten", "p.o as usize + place", "place"),
+    ("ledger", "refused writes accepted", "number != 0 || reply.get(skip) != Some(&0) ||", "number != 0 ||"),
+    ("ledger", "reset while refused", "if reset && number == 1 {", "if reset {"),
+    ("ledger", "I2C reset at any address", "address == 0 && frame == [0x06]", "frame == [0x06]"),
+    ("ledger", "reset address taken for reset", "[0x00, 0x46, 0x80, 0x42]", "[0x00, 0x44, 0x01, 0x83]"),
+    ("ledger", "write at 0 goes on", "        if address == 0 {\n            self.begin();\n        }\n", ""),
 ]
 
 
@@ -258,7 +258,7 @@ def build(folder, module, old=None, new=None):
             return "text found %d times" % text.count(old)
         with open(path, "w") as f:
             f.write(text.replace(old, new))
-    main = "check" if module == "book" else "answer"
+    main = "check" if module == "ledger" else "answer"
     with open(os.path.join(folder, "main.rs"), "w") as f:
         f.write(CHECK_MAIN if main == "check" else ANSWER_MAIN)
     made = subprocess.run(
@@ -303,12 +303,12 @@ def try_one(mutant, folders, cases, expected, names):
         error = build(folder, module, old, new)
         if error:
             return "ERROR", error
-        status, output = run(folder, "" if module == "book" else cases)
+        status, output = run(folder, "" if module == "ledger" else cases)
     finally:
         folders.put(folder)
     if status is None or status < 0:
         return "ERROR", "too slow or killed"
-    if module == "book":
+    if module == "ledger":
         noticed, why = judge_check(status, output)
     else:
         noticed, why = judge_answers(status, output, expected, names)
@@ -316,7 +316,7 @@ def try_one(mutant, folders, cases, expected, names):
 
 
 def unchanged_passes(folder, cases, expected):
-    for module in ("board", "book"):
+    for module in ("board", "ledger"):
         error = build(folder, module)
         status, output = (None, "") if error else run(folder, cases)
         if status != 0 or (module == "board" and output != expected):

@@ -1,4 +1,4 @@
--- A reply closed around the results of a command is the rules' reply, whatever stood in the buffer before. Assumes nothing.
+-- A reply closed around the results of a command is the rules' reply, whatever stood in the buffer before.
 use mathlib.Core.Path.{_≡_, refl, sym, ap, _∙_}
 use mathlib.Core.List.{List, [], _∷_, _++_, append-assoc}
 use Prim.Native.Nat.{ℕ, _+_, _-_, _≤_}

@@ -1,4 +1,4 @@
--- A frame taken apart, results that fit, and the numbers that a judged frame gets. Assumes nothing.
+-- A frame taken apart, results that fit, and the numbers that a judged frame gets.
 use mathlib.Core.Path.{_≡_, refl, sym, ap, _∙_}
 use mathlib.Core.Bool.{Bool, true, false}
 use mathlib.Core.List.{List, [], _++_}

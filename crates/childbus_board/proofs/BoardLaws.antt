@@ -1,5 +1,5 @@
 -- From what the board's calls promise to what those of the boundary do, and what the state buffer says after a call. Why: a call that is not refused
--- leaves a well-formed state, whose numbers fit their bytes. Assumes nothing.
+-- leaves a well-formed state, whose numbers fit their bytes.
 use mathlib.Core.Path.{_≡_, ap, _∙_}
 use mathlib.Core.List.{List}
 use Prim.Native.Nat.{ℕ, _≤_, _<_}

@@ -1,5 +1,5 @@
 -- On I²C all addresses from 128 on are foreign alike, and RS485 does not look at the address beside a frame: so a number over 255 may stand for
--- any other. Assumes nothing.
+-- any other.
 use mathlib.Core.Path.{_≡_, refl, sym, ap, _∙_}
 use mathlib.Core.Bool.{Bool, true, false}
 use mathlib.Core.List.{List, []}

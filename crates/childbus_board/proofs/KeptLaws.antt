@@ -1,4 +1,4 @@
--- What the state buffer says after a call. Why: a call that is not refused leaves a well-formed state, whose numbers fit their bytes. Assumes nothing.
+-- What the state buffer says after a call. Why: a call that is not refused leaves a well-formed state, whose numbers fit their bytes.
 use mathlib.Core.Path.{_≡_, refl, sym, ap, _∙_}
 use mathlib.Core.Bool.{true, false, false≢true}
 use mathlib.Core.List.{List}

@@ -1,4 +1,4 @@
--- Laws of `normalized`: the loops that write zeros beyond the bytes in use, and that a settled state says the same. Assumes nothing.
+-- Laws of `normalized`: the loops that write zeros beyond the bytes in use, and that a settled state says the same.
 use mathlib.Core.Path.{_≡_, refl, sym, ap, _∙_}
 use mathlib.Core.List.{List, _++_}
 use Prim.Native.Nat.{ℕ, _+_, _-_, _≤_, _<_}

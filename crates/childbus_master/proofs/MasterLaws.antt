@@ -1,4 +1,4 @@
--- From what the master's calls promise to what those of the boundary do. Assumes nothing.
+-- From what the master's calls promise to what those of the boundary do.
 use mathlib.Core.Path.{_≡_, refl, sym, ap, _∙_}
 use mathlib.Core.Bool.{cond}
 use mathlib.Core.List.{List}

@@ -1,4 +1,4 @@
--- The argument lengths that the table allows, by code. Assumes nothing.
+-- The argument lengths that the table allows, by code.
 use mathlib.Core.Path.{_≡_, refl, sym, ap, _∙_}
 use mathlib.Core.Bool.{true, and-eq-true-iff}
 use Prim.Native.Nat.{ℕ, _≤_}

@@ -1,4 +1,4 @@
--- `sumRight` by the frame's last bytes, and of a frame too short to hold a check sum. Assumes nothing.
+-- `sumRight` by the frame's last bytes, and of a frame too short to hold a check sum.
 use mathlib.Core.Path.{_≡_, _∙_}
 use mathlib.Core.Bool.{false, _&&_, and-true}
 use mathlib.Core.List.{List}

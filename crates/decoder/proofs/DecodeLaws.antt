@@ -1,4 +1,4 @@
--- Where the parts of a reply lie, on either bus. Assumes nothing.
+-- Where the parts of a reply lie, on either bus.
 use mathlib.Core.Path.{_≡_}
 use mathlib.Core.Bool.{true}
 use mathlib.Core.List.{List}

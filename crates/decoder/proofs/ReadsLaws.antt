@@ -1,4 +1,4 @@
--- The decoder's answer taken apart: what its promise says where it is a reply, and where it is a refusal. Assumes nothing.
+-- The decoder's answer taken apart: what its promise says where it is a reply, and where it is a refusal.
 use mathlib.Core.Path.{_≡_, refl, sym, ap, _∙_}
 use mathlib.Core.Bool.{false}
 use mathlib.Core.List.{List, [], _∷_}

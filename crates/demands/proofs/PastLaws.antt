@@ -1,4 +1,4 @@
--- The tracker of the past, by the number that a call answers: which frames and answers leave the past as it is. Assumes nothing.
+-- The tracker of the past, by the number that a call answers: which frames and answers leave the past as it is.
 use mathlib.Core.Path.{_≡_, refl, _∙_}
 use mathlib.Core.Bool.{true, false, cond, not, _&&_, and-true, and-false, and-assoc}
 use mathlib.Core.List.{List, []}

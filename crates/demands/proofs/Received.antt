@@ -1,5 +1,5 @@
 -- The past follows every received frame: a refused call answers 2 or above, which tells nothing; a frame with nothing to send tells of the two general
--- calls and of start alone; the rest is `Followed`. Assumes nothing.
+-- calls and of start alone; the rest is `Followed`.
 use mathlib.Core.Path.{_≡_, refl}
 use mathlib.Core.Bool.{true, false, not, and-false}
 use mathlib.Core.List.{List, []}

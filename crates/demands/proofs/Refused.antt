@@ -1,5 +1,4 @@
 -- Demand 1, refused calls. A call that passes the tests 2 to 5 answers 0 or 1, so a number of 2 or above is a refusal, which hands all back.
--- Assumes nothing.
 use mathlib.Core.Path.{_≡_, ap}
 use mathlib.Core.List.{List}
 use Prim.Native.Nat.{ℕ, _≤_}

@@ -1,4 +1,4 @@
--- Laws of byte layouts: the bytes of a number both ways, and parts that lie one behind the other. Assumes nothing.
+-- Laws of byte layouts: the bytes of a number both ways, and parts that lie one behind the other.
 use mathlib.Core.Path.{_≡_, refl, sym, ap, _∙_}
 use mathlib.Core.Bool.{Bool, true, false, _&&_}
 use mathlib.Core.List.{List, [], _∷_, _++_, append-assoc}

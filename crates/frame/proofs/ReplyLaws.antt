@@ -1,4 +1,4 @@
--- A reply is closed by laying its head over the buffer and sealing head and results: one law over the bus. Assumes nothing.
+-- A reply is closed by laying its head over the buffer and sealing head and results: one law over the bus.
 use mathlib.Core.Path.{_≡_, refl, sym, ap, _∙_}
 use mathlib.Core.List.{List, [], _∷_, _++_, append-assoc}
 use Prim.Native.Nat.{ℕ, _+_, _≤_}

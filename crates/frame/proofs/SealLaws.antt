@@ -1,4 +1,4 @@
--- The stores that seal a frame: the check sum's bytes set one after the other behind the first n. Assumes nothing.
+-- The stores that seal a frame: the check sum's bytes set one after the other behind the first n.
 use mathlib.Core.Path.{_≡_, refl, ap, _∙_}
 use mathlib.Core.List.{List, _++_}
 use Prim.Native.Nat.{ℕ, _+_, _/_, _%_, _≤_}

@@ -1,4 +1,4 @@
--- Laws of the argument table: a code past its end has no row, so only codes within it are served. Assumes nothing.
+-- Laws of the argument table: a code past its end has no row, so only codes within it are served.
 use mathlib.Core.Path.{_≡_, ap}
 use mathlib.Core.Bool.{true}
 use mathlib.Core.List.{List, []}

@@ -1,5 +1,5 @@
 -- Laws of the board calls: a well-formed state stays well formed, flash keeps its length, and a reply has at most M bytes. Why: a command keeps
--- its upload well formed (`CommandLaws`), and its reply is the last reply. Assumes nothing.
+-- its upload well formed (`CommandLaws`), and its reply is the last reply.
 use mathlib.Core.Path.{_≡_, refl, sym}
 use mathlib.Core.Bool.{Bool, true, false, cond, not, false≢true}
 use mathlib.Core.List.{List, []}

@@ -1,4 +1,4 @@
--- Laws of `same` and `overlay`: a loop that compares, bytes laid over a list, and bytes laid within a part of it. Assumes nothing.
+-- Laws of `same` and `overlay`: a loop that compares, bytes laid over a list, and bytes laid within a part of it.
 use mathlib.Core.Path.{_≡_, refl, sym, ap, _∙_}
 use mathlib.Core.List.{List, [], _∷_, _++_, append-assoc, append-nil}
 use mathlib.Core.Bool.{Bool, true, false, _&&_}

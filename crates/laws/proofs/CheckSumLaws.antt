@@ -1,5 +1,5 @@
 -- Laws of `CheckSums`, each over the algorithm, so that both widths cite the same one: a register over bytes, its bounds, the
--- linearity of its steps, and the check sum at the end of a frame. Assumes nothing.
+-- linearity of its steps, and the check sum at the end of a frame.
 use mathlib.Core.Path.{_≡_, refl, sym, ap, _∙_}
 use mathlib.Core.Bool.{Bool, true, false, cond, xor}
 use mathlib.Core.List.{List, [], _∷_, _++_}

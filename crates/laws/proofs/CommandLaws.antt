@@ -1,5 +1,5 @@
 -- Laws of the commands: whatever a command does, the upload stays well formed, flash keeps its length, and what it says fits a frame of M bytes.
--- Why: M is at least 32; the serial has at most 16 bytes, read asks for no more than fits, the other results have at most five. Assumes nothing.
+-- Why: M is at least 32; the serial has at most 16 bytes, read asks for no more than fits, the other results have at most five.
 use mathlib.Core.Path.{_≡_, refl, sym}
 use mathlib.Core.Bool.{true, _||_, and-eq-true-iff}
 use mathlib.Core.List.{List, [], _∷_}

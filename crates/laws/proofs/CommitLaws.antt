@@ -1,4 +1,4 @@
--- Laws of the commit: what it does to flash as one overlay, and accepted bytes taken many at a time. All over the page. Assumes nothing.
+-- Laws of the commit: what it does to flash as one overlay, and accepted bytes taken many at a time. All over the page.
 use mathlib.Core.Path.{_≡_, refl, sym, ap, _∙_}
 use mathlib.Core.Bool.{Bool, true, false, cond, not}
 use mathlib.Core.List.{List, [], _∷_, _++_, append-assoc, append-nil}

@@ -1,5 +1,5 @@
 -- The erase count of an upload from zero: one for each page whose part of the image differs from the flash that the upload began with. Why: the pages
--- before lie in front, so a commit finds its page as it was at the beginning (`drop-overlay`). All over the page. Assumes nothing.
+-- before lie in front, so a commit finds its page as it was at the beginning (`drop-overlay`). All over the page.
 use mathlib.Core.Path.{_≡_, refl, sym, ap, _∙_}
 use mathlib.Core.Bool.{Bool, true}
 use mathlib.Core.List.{List, [], _∷_, _++_, append-assoc, append-nil}

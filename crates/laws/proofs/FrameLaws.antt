@@ -1,5 +1,5 @@
 -- Laws of requests and replies as frames: what a board finds in a request, and what the decoder finds in a reply. Why: on each bus both are a header,
--- a body and the body's check sum. Assumes nothing.
+-- a body and the body's check sum.
 use mathlib.Core.Path.{_≡_, refl, ap, _∙_}
 use mathlib.Core.Bool.{true, false, not, and-eq-true-iff}
 use mathlib.Core.List.{List, [], _∷_, _++_, append-assoc}

@@ -1,5 +1,5 @@
 -- Laws of an upload as a whole: the bytes accepted since its write at zero lie in flash as one overlay, but for those that wait, and a finalize lays
--- these too. Why: each commit lays its bytes where the ones before end (`overlay-overlay`). All over the page. Assumes nothing.
+-- these too. Why: each commit lays its bytes where the ones before end (`overlay-overlay`). All over the page.
 use mathlib.Core.Path.{_≡_, refl, sym, ap, _∙_}
 use mathlib.Core.List.{List, [], _∷_, _++_, append-assoc, append-nil}
 use Prim.Native.Nat.{ℕ, _+_, _-_, _%_, _<_, _≤_}

@@ -1,4 +1,4 @@
--- Laws of `laid`: bytes written one after the other from the front of a lent output, and a check sum behind them. Assumes nothing.
+-- Laws of `laid`: bytes written one after the other from the front of a lent output, and a check sum behind them.
 use mathlib.Core.Path.{_≡_, refl, sym, ap, _∙_}
 use mathlib.Core.List.{List, [], _∷_, _++_, append-assoc}
 use Prim.Native.Nat.{ℕ, suc, _+_, _<_, _≤_}

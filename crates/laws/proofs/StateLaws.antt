@@ -1,5 +1,5 @@
 -- Laws of the range rule, of the malformed-state rule and of the numbers 2 to 5: the facts that each rule stands for, as a record with a name for
--- each fact, both ways; and of `used`, the bytes in use of a buffer. Assumes nothing.
+-- each fact, both ways; and of `used`, the bytes in use of a buffer.
 use mathlib.Core.Path.{_≡_, refl, ap, _∙_}
 use mathlib.Core.List.{List, [], _∷_, _++_}
 use mathlib.Core.Bool.{Bool, true, false, cond, not, _&&_}

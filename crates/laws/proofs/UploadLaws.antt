@@ -1,5 +1,5 @@
 -- Laws of an upload: next grows by the bytes taken, and a well-formed upload stays well formed over flash that keeps its length. Why: a commit
--- uses up at least one waiting byte, which pays for its count; the waiting bytes lie within one page. Assumes nothing.
+-- uses up at least one waiting byte, which pays for its count; the waiting bytes lie within one page.
 use mathlib.Core.Path.{_≡_, refl, ap, _∙_}
 use mathlib.Core.Bool.{Bool, true, false}
 use mathlib.Core.List.{List, [], _∷_, _++_}

@@ -1,4 +1,4 @@
--- Laws of the verdict on a frame: each case with what is known there, so that a claim over all frames is proved case by case. Assumes nothing.
+-- Laws of the verdict on a frame: each case with what is known there, so that a claim over all frames is proved case by case.
 use mathlib.Core.Path.{_≡_, refl}
 use mathlib.Core.Bool.{Bool, true, false, _||_}
 use mathlib.Core.List.{List}

@@ -1,6 +1,6 @@
 -- The same upload again counts 0. A fact of the ledger alone: after the first finalize its copy D has the bytes; until the first accepted write
 -- nothing is left to commit, so further finalizes do nothing; from that write on the accepted bytes are the first of those bytes (`Pieces`), and
--- nothing counts. Assumes nothing.
+-- nothing counts.
 use mathlib.Core.Path.{_≡_, refl}
 use mathlib.Core.Bool.{Bool, true, false, cond, not, false≢true, and-eq-true-iff}
 use mathlib.Core.List.{List, [], _∷_, _++_}

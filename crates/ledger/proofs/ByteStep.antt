@@ -1,5 +1,5 @@
 -- Accepted bytes: board and ledger take a byte in step and commit at the same time, since a byte ends a page where the number of accepted bytes
--- becomes a multiple of it; until then the uncommitted bytes stay within one page. Likewise a finalize. Assumes nothing.
+-- becomes a multiple of it; until then the uncommitted bytes stay within one page. Likewise a finalize.
 use mathlib.Core.Path.{_≡_, refl, ap, _∙_}
 use mathlib.Core.Bool.{Bool, true, false, cond}
 use mathlib.Core.List.{List, [], _∷_}

@@ -1,5 +1,5 @@
 -- One board call: if state and flash are the ledger's before it, they are after it. By the numbers 2 to 5, then by the verdict on the frame, in the
--- order in which the rules ask. Assumes nothing.
+-- order in which the rules ask.
 use mathlib.Core.Path.{_≡_, refl, sym, _∙_}
 use mathlib.Core.Bool.{Bool, true, false, cond, not, false≢true}
 use mathlib.Core.List.{List, []}

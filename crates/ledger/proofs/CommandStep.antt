@@ -1,5 +1,5 @@
 -- A well-framed command, by its code: write and finalize are `UploadStep`'s, all others leave the upload as it is, and start loses the waiting bytes
--- of a board that then takes none before a reset. Assumes nothing.
+-- of a board that then takes none before a reset.
 use mathlib.Core.Path.{_≡_, refl, sym}
 use mathlib.Core.Bool.{true, false, _||_, false≢true, and-eq-true-iff}
 use mathlib.Core.List.{List, [], _∷_}

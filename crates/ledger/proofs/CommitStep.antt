@@ -1,5 +1,5 @@
 -- Board and ledger commit in step: the board's commit lays its waiting bytes over flash (`committed-overlay`), the ledger's lays its uncommitted
--- ones over the copy (`commits-overlay`), and these are the same bytes at the same place. Assumes nothing.
+-- ones over the copy (`commits-overlay`), and these are the same bytes at the same place.
 use mathlib.Core.Path.{_≡_, sym}
 use Prim.Native.Nat.{_+_, _-_, _%_, _<_, _≤_}
 use native.Mathlib.Omega.{arith}

@@ -1,5 +1,5 @@
 -- What is true of a ledger however its bytes came: the committed bytes stand over the earlier copy, and the count is within its bounds. A commit
--- with something to commit and room keeps it (two overlays, the second where the first ends), and so do a byte and a finalize. Assumes nothing.
+-- with something to commit and room keeps it (two overlays, the second where the first ends), and so do a byte and a finalize.
 use mathlib.Core.Path.{_≡_, refl, sym, ap, _∙_}
 use mathlib.Core.Bool.{Bool, true, false, cond}
 use mathlib.Core.List.{List, [], _∷_, _++_}

@@ -1,5 +1,5 @@
 -- Demand 3 of the rules' board, by induction over the list of calls: fresh state and given flash are the new ledger's, and every call keeps it so
--- (`CallStep`). What is claimed of a step is read off there; the claim of two finalizes is the ledger's alone (`Again`). Assumes nothing.
+-- (`CallStep`). What is claimed of a step is read off there; the claim of two finalizes is the ledger's alone (`Again`).
 use mathlib.Core.Path.{_≡_, refl, sym, _∙_}
 use mathlib.Core.Bool.{true, false≢true}
 use mathlib.Core.List.{List, [], _∷_, _++_, append-assoc}

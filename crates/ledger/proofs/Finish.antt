@@ -1,5 +1,5 @@
 -- A ledger with all its bytes committed: its copy is the earlier copy with the accepted bytes laid over it, so they stand there byte by byte and
--- every other byte is as it was. By what stands at a place of an overlay. Assumes nothing.
+-- every other byte is as it was. By what stands at a place of an overlay.
 use mathlib.Core.Path.{_≡_, refl, sym, ap, _∙_}
 use mathlib.Core.Logic.{_⊎_, inl, inr}
 use mathlib.Core.List.{List, _++_, append-assoc}

@@ -1,5 +1,5 @@
 -- The ledger reads frames and replies at offsets of its own, knows the reset by its literal bytes, and looks at nothing else. What it reads is what
--- the rules mean: by the shape of a frame on each bus, computed. Assumes nothing.
+-- the rules mean: by the shape of a frame on each bus, computed.
 use mathlib.Core.Path.{_≡_, refl, sym, ap, _∙_}
 use mathlib.Core.Bool.{Bool, true, false, cond, _&&_, and-eq-true-iff}
 use mathlib.Core.List.{List, [], _∷_}

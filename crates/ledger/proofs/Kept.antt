@@ -1,5 +1,5 @@
 -- What is kept between board and ledger from call to call, and the answers of which the ledger makes nothing: a refusal, silence, a reply that says
--- no OK to a write or a finalize. After these neither side has changed; after a reset both begin anew. Assumes nothing.
+-- no OK to a write or a finalize. After these neither side has changed; after a reset both begin anew.
 use mathlib.Core.Path.{_≡_, refl, sym, _∙_}
 use mathlib.Core.Bool.{true, false, _&&_, false≢true}
 use mathlib.Core.List.{List, []}

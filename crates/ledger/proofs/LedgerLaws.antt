@@ -1,5 +1,5 @@
 -- Laws of the ledger's own way to lay bytes: it is the overlay, and `unequal` is the opposite of `same`, so a commit of the ledger is one
--- overlay. Assumes nothing.
+-- overlay.
 use mathlib.Core.Path.{_≡_, refl, ap, _∙_}
 use mathlib.Core.Bool.{Bool, true, false, cond, not, _||_, _&&_}
 use mathlib.Core.List.{List, [], _∷_}

@@ -1,5 +1,4 @@
 -- Numbers of bytes and pages: where a byte ends its page, how many pages there are then, and where uncommitted bytes of one page begin.
--- Assumes nothing.
 use mathlib.Core.Path.{_≡_, ap}
 use Prim.Native.Nat.{ℕ, _+_, _-_, _/_, _%_, _<_, _≤_}
 use native.Mathlib.Omega.{arith}

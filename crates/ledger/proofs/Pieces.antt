@@ -1,5 +1,5 @@
 -- Accepted writes one after the other, of bytes that flash has already: before the first of them all is committed, and from it on each begins where
--- the one before ended, so that by `Repeat` the ledger's copy and count stay. Assumes nothing.
+-- the one before ended, so that by `Repeat` the ledger's copy and count stay.
 use mathlib.Core.Path.{_≡_, refl, sym, _∙_}
 use mathlib.Core.Bool.{Bool, true, false, cond, and-eq-true-iff}
 use mathlib.Core.List.{List, [], _∷_, _++_}

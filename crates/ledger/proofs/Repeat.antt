@@ -1,5 +1,5 @@
 -- Bytes that flash has already, accepted once more: laying the first of them over it leaves it as it is, so no commit changes the copy and none
--- counts. Assumes nothing.
+-- counts.
 use mathlib.Core.Path.{_≡_, refl, sym, ap, _∙_}
 use mathlib.Core.Bool.{Bool, true, false, cond}
 use mathlib.Core.List.{List, [], _∷_, _++_, append-assoc}

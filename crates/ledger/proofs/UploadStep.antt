@@ -1,5 +1,5 @@
 -- Write and finalize, to a board that is not running and by a call that is not refused: bytes and commits keep step by `ByteStep`, the ledger reads
--- the board's address and data by `FrameReading`, and a finalize's reply tells the ledger's count. Assumes nothing.
+-- the board's address and data by `FrameReading`, and a finalize's reply tells the ledger's count.
 use mathlib.Core.Path.{_≡_, refl, sym, ap, _∙_}
 use mathlib.Core.Bool.{Bool, true, false, cond, _&&_, _||_, false≢true, and-eq-true-iff}
 use mathlib.Core.List.{List, []}

@@ -67,9 +67,9 @@ pub record AcceptedAgain (p : Profile) (bytes : List ℕ) (steps : List Step) : 
   pub from-zero : fromZero (pieces p steps) ≡ true
   pub same-bytes : joined (pieces p steps) ≡ bytes
 
--- what holds at an answered finalize: n is the number of the book's accepted bytes just after it, "just before" its earlier copy
+-- what holds at an answered finalize: n is the number of the ledger's accepted bytes just after it, "just before" its earlier copy
 pub record Finished (p : Profile) (s : Step) : Type 0 where
-  -- the reply's count is the book's
+  -- the reply's count is the ledger's
   pub reply-count : replyCount (p .bus) (s .reply) ≡ s .ledger .count
   -- the n bytes stand in flash from zero on
   pub bytes-stand : (i : ℕ) → i < length (s .ledger .accepted) → getD (s .flash) (p .offset + i) 0 ≡ getD (s .ledger .accepted) i 0
@@ -79,9 +79,9 @@ pub record Finished (p : Profile) (s : Step) : Type 0 where
 
 -- what holds after every call
 pub record Right (p : Profile) (s : Step) : Type 0 where
-  -- the flash equals the book's copy
+  -- the flash equals the ledger's copy
   pub flash-is : s .flash ≡ s .ledger .copy
-  -- the state's count is the book's count
+  -- the state's count is the ledger's count
   pub count-is : s .count ≡ s .ledger .count
   -- it is at most n
   pub count-bytes : s .ledger .count ≤ length (s .ledger .accepted)

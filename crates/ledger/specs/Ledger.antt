@@ -9,7 +9,7 @@ use Rattle.rules.specs.declared.kinds.Bus.{Bus}
 use Rattle.rules.specs.declared.kinds.Bus.the-variants.{I2c, Rs485}
 use Rattle.rules.specs.Profile.{Profile}
 
--- the plain book: a copy of the flash, an earlier one, accepted bytes, the number committed, a count, and f
+-- the ledger: a copy of the flash, an earlier one, accepted bytes, the number committed, a count, and f
 pub record Ledger : Type 0 where
   pub copy : List ℕ
   pub earlier : List ℕ
@@ -35,7 +35,7 @@ unequal [] (y ∷ ys) = true
 unequal (x ∷ xs) [] = true
 unequal (x ∷ xs) (y ∷ ys) = not (eqb x y) || unequal xs ys
 
--- a commit of the book: each uncommitted byte is written to the flash copy at O plus its place in the accepted bytes;
+-- a commit of the ledger: each uncommitted byte is written to the flash copy at O plus its place in the accepted bytes;
 -- a change raises the count by one; no byte stays uncommitted
 unfoldable pub commits : Profile → Ledger → Ledger
 commits p k =
@@ -49,7 +49,7 @@ commits p k =
       finals = k .finals;
     }
 
--- one more accepted byte; the book commits when it completes a page
+-- one more accepted byte; the ledger commits when it completes a page
 unfoldable pub joins : Profile → Ledger → ℕ → Ledger
 joins p k b =
     let more : Ledger = record { copy = k .copy; earlier = k .earlier; accepted = k .accepted ++ (b ∷ []); committed = k .committed; count = k .count; finals = k .finals } in
@@ -63,7 +63,7 @@ joinsAll p k (b ∷ bs) = joinsAll p (joins p k b) bs
 unfoldable pub writes : Profile → Ledger → ℕ → List ℕ → Ledger
 writes p k address bytes = joinsAll p (cond (eqb address 0) (opened (k .copy)) k) bytes
 
--- answered finalize: with uncommitted bytes it adds one to f, and the book commits
+-- answered finalize: with uncommitted bytes it adds one to f, and the ledger commits
 unfoldable pub finalizes : Profile → Ledger → Ledger
 finalizes p k =
     cond (ltb (k .committed) (length (k .accepted)))
@@ -117,7 +117,7 @@ isWrite bus f number reply = answeredOk bus 0x06 f number reply
 abbrev pub isFinalize : Bus → List ℕ → ℕ → List ℕ → Bool
 isFinalize bus f number reply = answeredOk bus 0x07 f number reply
 
--- the book is fed a received frame with its answer; other calls, refused ones too: nothing
+-- the ledger is fed a received frame with its answer; other calls, refused ones too: nothing
 unfoldable pub entered : Profile → Ledger → ℕ → List ℕ → ℕ → List ℕ → Ledger
 entered p k a f number reply =
     cond (isReset (p .bus) a f number) (opened (k .copy))

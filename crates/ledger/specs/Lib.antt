@@ -1,4 +1,4 @@
--- The ledger (document 01's "plain book") and the claims over every list of calls.
+-- The ledger and the claims over every list of calls.
 pub mod Ledger
 pub mod Calls
 pub mod Claim

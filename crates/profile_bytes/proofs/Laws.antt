@@ -1,4 +1,4 @@
--- Both ways of a profile: its bytes say it, and bytes that hold one are its bytes. Bytes that hold none are out of range. Assumes nothing.
+-- Both ways of a profile: its bytes say it, and bytes that hold one are its bytes. Bytes that hold none are out of range.
 use mathlib.Core.Path.{_≡_, refl, sym, ap, _∙_}
 use mathlib.Core.Bool.{true, false, _&&_}
 use mathlib.Core.List.{List, [], _∷_, _++_}

@@ -1,5 +1,5 @@
 -- Calls of the code that follow a script up to a place, and what is left at its end: by the contracts what the rules say, and by the demands what the
--- ledger says. Assumes nothing.
+-- ledger says.
 use mathlib.Core.Path.{_≡_, refl, sym, ap, _∙_}
 use mathlib.Core.Bool.{true, false}
 use mathlib.Core.List.{List, [], _∷_}

@@ -1,5 +1,5 @@
 -- What is written down of the code is what the board of the rules does: the contract equates all that is seen of a call with what the rules say, and
--- a reply laid over the lent buffer is its first bytes (`take-laid`); so by induction over the list. Assumes nothing.
+-- a reply laid over the lent buffer is its first bytes (`take-laid`); so by induction over the list.
 use mathlib.Core.Path.{_≡_, refl, ap, _∙_}
 use mathlib.Core.List.{List, [], _∷_}
 use Prim.Native.Nat.{ℕ}

@@ -1,4 +1,4 @@
--- Laws of scripts: their calls from the first record on, and the record at a place. Assumes nothing.
+-- Laws of scripts: their calls from the first record on, and the record at a place.
 use mathlib.Core.Path.{_≡_, refl, ap, _∙_}
 use mathlib.Core.Bool.{true, false}
 use mathlib.Core.List.{List, [], _∷_}

@@ -104,6 +104,6 @@ pub record Left (p : Profile) (script d b : List ℕ) (s : State) (e o : List �
   pub followed : Followed p script d b s e o
   -- the three demands of them
   pub met : Met p zeroed d (followed .happened)
-  -- the flash and the count are the book's
+  -- the flash and the count are the ledger's
   pub flash-is : e ≡ ledgerAfter (opened d) (stepsOf p d (followed .happened)) .copy
   pub count-is : s .upload .count ≡ ledgerAfter (opened d) (stepsOf p d (followed .happened)) .count

@@ -56,7 +56,7 @@ fn frame_length(script: &[u8], at: usize) -> usize
 }
 
 // Runs a script, records of calls one after the other, on the real board from the fresh state: the state after its last call.
-// All three demands hold of the calls that it makes, and what it leaves is the book's. What is not a whole record ends a script.
+// All three demands hold of the calls that it makes, and what it leaves is the ledger's. What is not a whole record ends a script.
 pub fn run(p: Profile, script: &[u8], flash: &mut [u8], out: &mut [u8]) -> State
     ensures { λ r. ⌜ Left p (now (script .entry)) (now (flash .entry)) (now (out .entry)) r (now (flash .exit)) (now (out .exit)) ⌝ }
 {

@@ -1,4 +1,4 @@
--- Laws of `Makes`: bytes made at the front of a lent output, more bytes behind them, and their check sum. Assumes nothing.
+-- Laws of `Makes`: bytes made at the front of a lent output, more bytes behind them, and their check sum.
 use mathlib.Core.Path.{_≡_, refl, sym, ap, _∙_}
 use mathlib.Core.List.{List, [], _∷_, _++_, append-assoc, append-nil}
 use Prim.Native.Nat.{ℕ, _+_, _-_, _≤_}

@@ -1,4 +1,4 @@
--- Room for results in the lent buffer. Assumes nothing.
+-- Room for results in the lent buffer.
 use Prim.Native.Nat.{ℕ, _+_, _≤_}
 use native.Mathlib.Omega.{arith}
 use Rattle.rules.specs.Frames.{shortestReply}

@@ -1,5 +1,5 @@
 -- The encoder makes the requests of an upload: writes of allowed lengths, the finalize, and reads of allowed lengths, to an address that the board
--- hears. Assumes nothing.
+-- hears.
 use mathlib.Core.Path.{_≡_, refl}
 use mathlib.Core.Bool.{true, false, not, _&&_, and-eq-true-iff}
 use mathlib.Core.List.{List, [], _∷_, _++_}

@@ -1,5 +1,5 @@
 -- One request and its answer, as a talk has them: a command that says OK and keeps the address is answered OK with its results, and leaves the board
--- ready for the next. By the statements on requests and replies; on I²C the answer is read at the same address. Assumes nothing.
+-- ready for the next. By the statements on requests and replies; on I²C the answer is read at the same address.
 use mathlib.Core.Path.{_≡_, refl, sym, subst, _∙_}
 use mathlib.Core.Bool.{true}
 use mathlib.Core.List.{List}

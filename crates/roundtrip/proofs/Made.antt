@@ -1,4 +1,4 @@
--- What holds where the encoder makes a request: its bytes, and that no test of the encoder stood against it. Assumes nothing.
+-- What holds where the encoder makes a request: its bytes, and that no test of the encoder stood against it.
 use mathlib.Core.Path.{_≡_, refl}
 use mathlib.Core.Bool.{Bool, true, false, cond, not, _&&_, _||_, and-eq-true-iff}
 use mathlib.Core.List.{List}

@@ -1,5 +1,5 @@
 -- Every reply is read. The call is the command's own (`Requests`), what it says fits the decoder (`Responded`), and the decoder finds in a whole reply just
--- its status and results (`FrameLaws`). On I²C the reply is the last reply of the state that the call leaves. Assumes nothing.
+-- its status and results (`FrameLaws`). On I²C the reply is the last reply of the state that the call leaves.
 use mathlib.Core.Path.{_≡_, refl, sym, ap, subst, _∙_}
 use mathlib.Core.Bool.{true, false, _||_}
 use mathlib.Core.List.{List, [], _++_, append-nil}

@@ -1,5 +1,5 @@
 -- What a command says fits the decoder: a status that it knows, and with OK at least the command's fixed part. Command by command (`executed-cases`); a
--- read within S shows as many bytes as it asks for. A command that replies keeps the board stopped, and only set address moves it. Assumes nothing.
+-- read within S shows as many bytes as it asks for. A command that replies keeps the board stopped, and only set address moves it.
 use mathlib.Core.Path.{_≡_, refl}
 use mathlib.Core.Bool.{false, _||_, and-eq-true-iff}
 use mathlib.Core.List.{List, [], _∷_}

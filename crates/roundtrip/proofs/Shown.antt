@@ -1,5 +1,5 @@
 -- The reads of an image that stands in flash: each shows its part of it (`part-overlay`) and changes neither flash nor readiness; parts that follow one
--- another, joined, are the whole. Assumes nothing.
+-- another, joined, are the whole.
 use mathlib.Core.Path.{_≡_, refl, sym, ap, _∙_}
 use mathlib.Core.List.{List, [], _∷_, _++_}
 use Prim.Native.Nat.{ℕ, _+_, _-_, _≤_}

@@ -1,5 +1,5 @@
 -- The upload is seen: the writes leave the board as if the image had come in one write (`Written`), so the finalize leaves it standing in flash
--- (`finished-flash`) and answers the count of the state that it leaves, and what is read back is the image (`Shown`). Assumes nothing.
+-- (`finished-flash`) and answers the count of the state that it leaves, and what is read back is the image (`Shown`).
 use mathlib.Core.Path.{_≡_, refl, ap, _∙_}
 use mathlib.Core.Logic.{_⊎_, inl, inr}
 use mathlib.Core.List.{List, []}

@@ -1,5 +1,5 @@
 -- The writes of an upload: each is accepted, since it begins at zero or where the one before ended, and its bytes join those before (`takenAll-append`).
--- So the board stands as if all bytes so far had come in one write, and is ready for the next. Assumes nothing.
+-- So the board stands as if all bytes so far had come in one write, and is ready for the next.
 use mathlib.Core.Path.{_≡_, refl, sym, ap, _∙_}
 use mathlib.Core.Bool.{true, _||_}
 use mathlib.Core.List.{List, [], _∷_, _++_, append-assoc, append-nil}

@@ -1,5 +1,5 @@
 -- The malformed-state rule on the numbers that a state of the code holds: `held` is the length of the waiting bytes that it says, and `len` that of
--- the last reply. Assumes nothing.
+-- the last reply.
 use mathlib.Core.Path.{_≡_, refl}
 use mathlib.Core.Bool.{_&&_}
 use Prim.Native.Nat.{ℕ, _-_, _%_, _≤_}

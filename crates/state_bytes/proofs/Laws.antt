@@ -1,5 +1,4 @@
 -- Both ways of a state: its bytes say it, and bytes that hold one are its bytes, where these mean something. Bytes that hold none are malformed.
--- Assumes nothing.
 use mathlib.Core.Path.{_≡_, refl, sym, ap, _∙_}
 use mathlib.Core.Bool.{true, false, cond, _&&_}
 use mathlib.Core.List.{List, [], _∷_, _++_, append-assoc}

@@ -1,4 +1,4 @@
--- Laws of accepted bytes that lie in one page, over the page, of a commit by what the code holds, and of an upload that is formed again. Assumes nothing.
+-- Laws of accepted bytes that lie in one page, over the page, of a commit by what the code holds, and of an upload that is formed again.
 use mathlib.Core.Path.{_≡_, refl, sym, ap, subst, _∙_}
 use mathlib.Core.Bool.{Bool, true, false, cond}
 use mathlib.Core.List.{List, [], _∷_, _++_}

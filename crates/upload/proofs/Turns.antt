@@ -1,4 +1,4 @@
--- The turns of `upload::take`: what has been reached after the first i bytes, and how a part that lies in one page leads further. Assumes nothing.
+-- The turns of `upload::take`: what has been reached after the first i bytes, and how a part that lies in one page leads further.
 use mathlib.Core.Path.{_≡_, refl, sym, ap, _∙_}
 use mathlib.Core.List.{List}
 use Prim.Native.Nat.{ℕ, _+_, _-_, _%_, _≤_}

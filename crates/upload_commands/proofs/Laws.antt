@@ -1,4 +1,4 @@
--- What write and finalize ask of the upload holds where none of the numbers 2 to 5 applies. Assumes nothing.
+-- What write and finalize ask of the upload holds where none of the numbers 2 to 5 applies.
 use mathlib.Core.Path.{_≡_, refl, sym, ap, _∙_}
 use mathlib.Core.Bool.{Bool, true, false, _||_, and-eq-true-iff}
 use mathlib.Core.List.{List}

@@ -1,4 +1,4 @@
--- Laws of the general calls' form. Assumes nothing.
+-- Laws of the general calls' form.
 use mathlib.Core.Path.{_≡_, refl, sym, ap, _∙_}
 use mathlib.Core.Bool.{Bool, true, false, _&&_}
 use mathlib.Core.List.{List}

@@ -1,4 +1,4 @@
--- The profile, the flash and the calls that the wrong boards are tried on. Assumes nothing.
+-- The profile, the flash and the calls that the wrong boards are tried on.
 use mathlib.Core.List.{List, [], _∷_}
 use Prim.Native.Nat.{ℕ, _≤_}
 use native.Mathlib.Omega.{arith}

@@ -1,4 +1,4 @@
--- One name for all that a proof by computation opens: the rules, the ledger and the past. Assumes nothing.
+-- One name for all that a proof by computation opens: the rules, the ledger and the past.
 use Rattle.rules.specs.Bytes.{same, overlay}
 use Rattle.rules.specs.Profile.{inRange}
 use Rattle.rules.specs.State.{uploadFormed, wellFormed}

@@ -1,4 +1,4 @@
--- A variation by the rules' own parts is the board of the rules: by cases of the verdict and of the command's code. Assumes nothing.
+-- A variation by the rules' own parts is the board of the rules: by cases of the verdict and of the command's code.
 use mathlib.Core.Path.{_≡_, refl, sym, ap, _∙_}
 use mathlib.Core.Bool.{Bool, true, false, cond, _&&_}
 use mathlib.Core.List.{List, [], _∷_}

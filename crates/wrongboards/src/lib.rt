@@ -36,7 +36,7 @@ pub fn first_page_only()
     ensures { λ _. ⌜ (Demand3 firstPageOnly → ⊥) ⌝ }
 {}
 
-// A board that invents its erase count: demand 3, the reply's count is the book's.
+// A board that invents its erase count: demand 3, the reply's count is the ledger's.
 pub fn invents_count()
     ensures { λ _. ⌜ (Demand3 inventsCount → ⊥) ⌝ }
 {}
@@ -51,7 +51,7 @@ pub fn pads_last_page()
     ensures { λ _. ⌜ (Demand3 padsLastPage → ⊥) ⌝ }
 {}
 
-// Half of a write past S is taken: demand 2, a refused write leaves flash as it was; and demand 3, flash equals the book's copy.
+// Half of a write past S is taken: demand 2, a refused write leaves flash as it was; and demand 3, flash equals the ledger's copy.
 pub fn takes_half()
     ensures { λ _. ⌜ (Demand2 takesHalf → ⊥) × (Demand3 takesHalf → ⊥) ⌝ }
 {}
@@ -66,7 +66,7 @@ pub fn counts_unchanged()
     ensures { λ _. ⌜ (Demand3 countsUnchanged → ⊥) ⌝ }
 {}
 
-// Finalizing on start: demand 3, flash equals the book's copy.
+// Finalizing on start: demand 3, flash equals the ledger's copy.
 pub fn finalizes_on_start()
     ensures { λ _. ⌜ (Demand3 finalizesOnStart → ⊥) ⌝ }
 {}

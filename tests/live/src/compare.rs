@@ -5,7 +5,7 @@ use crate::layout::*;
 use crate::library::{self, Lent};
 use crate::tally::{Kind, Tally};
 use rules::board;
-use rules::book::{event, Seen};
+use rules::ledger::{event, Seen};
 use rules::master::{self, Request, RESET_ADDRESS_CALL, RESET_CALL};
 use rules::model::*;
 use rules::script::{fnv, hex, UNTOUCHED};

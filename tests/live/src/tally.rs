@@ -1,6 +1,6 @@
 //! What was compared: calls of each kind by number, and what happened in them.
 
-use rules::book::Event;
+use rules::ledger::Event;
 use rules::model::*;
 
 #[derive(Clone, Copy)]

@@ -8,7 +8,7 @@
 //! accepted again since an earlier finalize give count 0.
 
 use crate::board;
-use crate::book::{Event, Ledger, Seen};
+use crate::ledger::{Event, Ledger, Seen};
 use crate::master::{self, Request};
 use crate::model::*;
 use crate::rng::Rng;

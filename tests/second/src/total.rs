@@ -1,7 +1,7 @@
 //! Every public function gives an answer for any input.
 
 use crate::board;
-use crate::book::{Ledger, Seen};
+use crate::ledger::{Ledger, Seen};
 use crate::check::{demand, framed, plain_profile, write_frame};
 use crate::master::{self, Request};
 use crate::model::*;

@@ -1,4 +1,4 @@
--- `addressing::address_fits` meets its contract, by the bus. Assumes nothing.
+-- `addressing::address_fits` meets its contract, by the bus.
 use borrow.Author.Needs.{needs}
 use Rattle.addressing.proofs.address_fits.Statement.{statement}
 use Rattle.addressing.proofs.address_fits.Tie as tie

@@ -1,4 +1,4 @@
--- `addressing::addressed` meets its contract: its tests are those of the definition. Assumes nothing.
+-- `addressing::addressed` meets its contract: its tests are those of the definition.
 use borrow.Author.Tests.{eq-eqb, ne-eqb, le-leb, lt-leb, lt-ltb, le-ltb}
 use Rattle.rules.specs.Frames.{addressed}
 use borrow.Author.Needs.{needs}

@@ -1,4 +1,4 @@
--- `addressing::answers_to` meets its contract, by the address and its tests. Assumes nothing.
+-- `addressing::answers_to` meets its contract, by the address and its tests.
 use borrow.Author.Tests.{eq-eqb, ne-eqb, le-leb, lt-leb, lt-ltb, le-ltb}
 use borrow.Author.Needs.{needs}
 use Rattle.addressing.proofs.answers_to.Statement.{statement}

@@ -1,4 +1,4 @@
--- `answer::destination` meets its contract, by the bus. Assumes nothing.
+-- `answer::destination` meets its contract, by the bus.
 use mathlib.Core.Path.{_≡_, refl, sym, ap, _∙_}
 use native.Mathlib.Omega.{arith}
 use Prim.Native.Nat.{_≤_}

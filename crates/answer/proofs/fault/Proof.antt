@@ -1,4 +1,4 @@
--- `answer::fault` meets its contract: a response with no results lays nothing over the buffer. Assumes nothing.
+-- `answer::fault` meets its contract: a response with no results lays nothing over the buffer.
 use Rattle.laws.proofs.CommandLaws.{shortestReply-le}
 use Rattle.state.specs.View.{view}
 use Rattle.laws.proofs.BytesLaws.{overlay-none}

@@ -1,4 +1,4 @@
--- `answer::respond` meets its contract: the reply is closed around the results, and the state keeps it on I²C. By `with-reply-ruled` and `no-reply-ruled`. Assumes nothing.
+-- `answer::respond` meets its contract: the reply is closed around the results, and the state keeps it on I²C. By `with-reply-ruled` and `no-reply-ruled`.
 use Rattle.answer.proofs.RespondLaws.{with-reply-ruled, no-reply-ruled}
 use Rattle.answer.specs.Answered.{Fits}
 use Rattle.response.specs.declared.Response.{Response}

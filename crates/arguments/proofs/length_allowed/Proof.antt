@@ -1,4 +1,4 @@
--- `arguments::length_allowed` meets its contract: the row's second and third columns are the table's. Assumes nothing.
+-- `arguments::length_allowed` meets its contract: the row's second and third columns are the table's.
 use mathlib.Core.Path.{_≡_}
 use Prim.Native.Nat.{_≤_, _<_}
 use native.Mathlib.Omega.{arith}

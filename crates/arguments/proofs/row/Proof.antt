@@ -1,4 +1,4 @@
--- `arguments::row` meets its contract: the table in the code is the definition's, and past its end both have zeros. Assumes nothing.
+-- `arguments::row` meets its contract: the table in the code is the definition's, and past its end both have zeros.
 use mathlib.Core.Path.{_≡_, refl, sym, _∙_}
 use mathlib.Core.List.{[], _∷_}
 use Prim.Native.Nat.{ℕ, zero, suc}

@@ -1,4 +1,4 @@
--- `arguments::served` meets its contract: the row's first column is the table's. Assumes nothing.
+-- `arguments::served` meets its contract: the row's first column is the table's.
 use mathlib.Core.Path.{ap}
 use Prim.Native.Nat.{ℕ}
 use lib.Dec.{eqb}

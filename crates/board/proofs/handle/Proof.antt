@@ -1,4 +1,4 @@
--- `board::handle` meets its contract: each arm is the rules' case for that verdict. Assumes nothing.
+-- `board::handle` meets its contract: each arm is the rules' case for that verdict.
 use Rattle.board.proofs.ServeLaws.{command-long}
 use Rattle.rules.specs.Board.{handled}
 use mathlib.Core.Path.{_≡_, refl, sym, ap, _∙_}

@@ -1,4 +1,4 @@
--- `cases::filled` meets its contract: what is read after the bytes that are kept lies within the input, which stays as long as it was. Assumes nothing.
+-- `cases::filled` meets its contract: what is read after the bytes that are kept lies within the input, which stays as long as it was.
 use borrow.Author.Needs.{needs}
 use native.Mathlib.Omega.{arith}
 use Rattle.io.proofs.Counting.{counts}

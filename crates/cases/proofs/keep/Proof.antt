@@ -1,4 +1,4 @@
--- `cases::keep` is safe and ends: both places stay within the input. Assumes nothing.
+-- `cases::keep` is safe and ends: both places stay within the input.
 use mathlib.Core.Path.{_≡_}
 use Prim.Native.Nat.{_≤_, _-_}
 use native.Mathlib.Omega.{arith}

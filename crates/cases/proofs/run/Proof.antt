@@ -1,4 +1,4 @@
--- `cases::run` is safe and ends: the turns are counted down, and what is kept lies within the input. Assumes nothing.
+-- `cases::run` is safe and ends: the turns are counted down, and what is kept lies within the input.
 use mathlib.Core.Path.{_≡_}
 use Prim.Native.Nat.{_≤_}
 use native.Mathlib.Omega.{arith}

@@ -1,4 +1,4 @@
--- `cases::turn` meets its contract: what is kept is a part of the input, which stays as long as it was. Assumes nothing.
+-- `cases::turn` meets its contract: what is kept is a part of the input, which stays as long as it was.
 use borrow.Author.Needs.{needs}
 use Rattle.cases.proofs.turn.Statement.{statement}
 use Rattle.cases.proofs.turn.Tie as tie

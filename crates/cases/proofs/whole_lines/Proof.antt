@@ -1,4 +1,4 @@
--- `cases::whole_lines` is safe and ends: each turn begins after the end of a line. Assumes nothing.
+-- `cases::whole_lines` is safe and ends: each turn begins after the end of a line.
 use mathlib.Core.Path.{_≡_}
 use Prim.Native.Nat.{_≤_, _-_}
 use native.Mathlib.Omega.{arith}

@@ -1,4 +1,4 @@
--- `childbus_fresh` meets its contract: the fresh state is the one of zeros. Assumes nothing.
+-- `childbus_fresh` meets its contract: the fresh state is the one of zeros.
 use borrow.Author.Tests.{lt-leb, le-leb}
 use borrow.Author.Needs.{needs}
 use Rattle.childbus_board.specs.BoardBytes.{freshLeft}

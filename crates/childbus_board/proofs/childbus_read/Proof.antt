@@ -1,4 +1,4 @@
--- `childbus_read` meets its contract, by what `readout::read` promises. Assumes nothing.
+-- `childbus_read` meets its contract, by what `readout::read` promises.
 use borrow.Author.Needs.{needs}
 use Rattle.childbus_board.proofs.BoardLaws.{read-left}
 use Rattle.childbus_board.proofs.childbus_read.Statement.{statement}

@@ -1,4 +1,4 @@
--- `childbus_receive` meets its contract, by what `board::receive` promises. The state buffer is written only where the call is not refused. Assumes nothing.
+-- `childbus_receive` meets its contract, by what `board::receive` promises. The state buffer is written only where the call is not refused.
 use borrow.Author.Needs.{needs}
 use Rattle.childbus_board.proofs.BoardLaws.{received-refused-left, received-kept-left}
 use Rattle.childbus_board.proofs.childbus_receive.Statement.{statement}

@@ -1,4 +1,4 @@
--- What a call leaves in the state buffer, by `KeptLaws`. Assumes nothing.
+-- What a call leaves in the state buffer, by `KeptLaws`.
 use Rattle.childbus_board.proofs.KeptLaws.{fresh-says, kept-says, refused-says}
 use Rattle.childbus_board.proofs.state_kept.Statement.{statement}
 use Rattle.childbus_board.proofs.state_kept.Tie as tie

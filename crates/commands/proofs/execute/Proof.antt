@@ -1,4 +1,4 @@
--- `commands::execute` meets its contract: its tests are the definition's, in its order. Assumes nothing.
+-- `commands::execute` meets its contract: its tests are the definition's, in its order.
 use Rattle.response.proofs.Laws.{few-fit}
 use Rattle.rules.specs.Commands.{served, lengthAllowed, executed}
 use borrow.Author.Tests.{not-true, not-false}

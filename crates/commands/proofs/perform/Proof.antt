@@ -1,4 +1,4 @@
--- `commands::perform` meets its contract: each arm is the definition's case for that code. Assumes nothing.
+-- `commands::perform` meets its contract: each arm is the definition's case for that code.
 use Rattle.commands.proofs.Laws.{set-address-arguments, write-arguments, read-arguments}
 use Rattle.response.proofs.Laws.{few-fit}
 use Rattle.laws.proofs.StateLaws.{length-used}

@@ -1,4 +1,4 @@
--- `crc::crc16_bit` meets its contract: the code tests the bit that falls out as the definition does. Assumes nothing.
+-- `crc::crc16_bit` meets its contract: the code tests the bit that falls out as the definition does.
 use borrow.Author.Tests.{eq-eqb, ne-eqb}
 use Rattle.rules.specs.CheckSums.{bit}
 use Rattle.crc.proofs.crc16_bit.Statement.{statement}

@@ -1,4 +1,4 @@
--- `crc::crc16_right` meets its contract: the last two bytes are the check sum's, by `sumRight-Rs485`; fewer hold none. Assumes nothing.
+-- `crc::crc16_right` meets its contract: the last two bytes are the check sum's, by `sumRight-Rs485`; fewer hold none.
 use mathlib.Core.Path.{sym}
 use Prim.Native.Nat.{_-_}
 use native.Mathlib.Omega.{arith}

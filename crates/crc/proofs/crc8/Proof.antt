@@ -1,4 +1,4 @@
--- `crc::crc8` meets its contract: at each turn the register, run over the rest, gives the whole check sum (`run-next`). Assumes nothing.
+-- `crc::crc8` meets its contract: at each turn the register, run over the rest, gives the whole check sum (`run-next`).
 use mathlib.Core.Path.{_≡_, sym, ap, _∙_}
 use Prim.Native.Nat.{ℕ, _≤_, _-_, _+_}
 use native.Mathlib.Omega.{arith}

@@ -1,4 +1,4 @@
--- `crc::crc8_bit` meets its contract: the register is below 256, so its top bit is set exactly if it is 128 or more. Assumes nothing.
+-- `crc::crc8_bit` meets its contract: the register is below 256, so its top bit is set exactly if it is 128 or more.
 use mathlib.Core.Path.{_≡_}
 use Prim.Native.Nat.{_/_, _%_}
 use native.Mathlib.Omega.{arith}

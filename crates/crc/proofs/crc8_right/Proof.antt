@@ -1,4 +1,4 @@
--- `crc::crc8_right` meets its contract: the last byte is the check sum, by `sumRight-I2c`; with no byte there is none. Assumes nothing.
+-- `crc::crc8_right` meets its contract: the last byte is the check sum, by `sumRight-I2c`; with no byte there is none.
 use mathlib.Core.Path.{sym, ap, _∙_}
 use Prim.Native.Nat.{_-_}
 use native.Mathlib.Omega.{arith}

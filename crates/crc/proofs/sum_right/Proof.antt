@@ -1,4 +1,4 @@
--- `crc::sum_right` meets its contract: by the bus, from what the two tests ensure. Assumes nothing.
+-- `crc::sum_right` meets its contract: by the bus, from what the two tests ensure.
 use borrow.Author.Needs.{needs}
 use Rattle.crc.proofs.sum_right.Statement.{statement}
 use Rattle.crc.proofs.sum_right.Tie as tie

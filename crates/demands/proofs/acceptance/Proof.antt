@@ -1,4 +1,4 @@
--- `demands::acceptance` meets its contract: by `AllRight`. Assumes nothing.
+-- `demands::acceptance` meets its contract: by `AllRight`.
 use Rattle.demands.proofs.AllRight.{demand2}
 use Rattle.demands.proofs.acceptance.Statement.{statement}
 use Rattle.demands.proofs.acceptance.Tie as tie

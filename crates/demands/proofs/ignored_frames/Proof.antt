@@ -1,4 +1,4 @@
--- `demands::ignored_frames` meets its contract: by `Ignored`. Assumes nothing.
+-- `demands::ignored_frames` meets its contract: by `Ignored`.
 use Rattle.demands.proofs.Ignored.{ignored-frames}
 use Rattle.demands.proofs.ignored_frames.Statement.{statement}
 use Rattle.demands.proofs.ignored_frames.Tie as tie

@@ -1,4 +1,4 @@
--- `demands::refused_untouched` meets its contract: by `Refused`. Assumes nothing.
+-- `demands::refused_untouched` meets its contract: by `Refused`.
 use Rattle.demands.proofs.Refused.{refused-untouched}
 use Rattle.demands.proofs.refused_untouched.Statement.{statement}
 use Rattle.demands.proofs.refused_untouched.Tie as tie

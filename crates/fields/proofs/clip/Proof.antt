@@ -1,4 +1,4 @@
--- `fields::clip` meets its contract, by its test. Assumes nothing.
+-- `fields::clip` meets its contract, by its test.
 use borrow.Author.Tests.{lt-ltb, le-ltb}
 use borrow.Author.Needs.{needs}
 use Rattle.fields.proofs.clip.Statement.{statement}

@@ -1,4 +1,4 @@
--- `fields::four_at` meets its contract: each byte is below 256, so that the sum fits. Assumes nothing.
+-- `fields::four_at` meets its contract: each byte is below 256, so that the sum fits.
 use native.Mathlib.Omega.{arith}
 use borrow.Author.Needs.{needs}
 use Rattle.fields.proofs.four_at.Statement.{statement}

@@ -1,5 +1,5 @@
 -- `flash::commit` meets its contract: the part that it compares is the one that the bytes cover, and bytes that stand there already
--- leave flash as it is. By `overlay-same`. Assumes nothing.
+-- leave flash as it is. By `overlay-same`.
 use mathlib.Core.Path.{_≡_, sym, ap, _∙_}
 use mathlib.Core.Bool.{Bool, not}
 use mathlib.Core.List.{List}

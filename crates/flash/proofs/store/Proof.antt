@@ -1,4 +1,4 @@
--- `flash::store` meets its contract. Invariant: the first i bytes are laid over d, which is `paste` of the kit. By `paste-suc`. Assumes nothing.
+-- `flash::store` meets its contract. Invariant: the first i bytes are laid over d, which is `paste` of the kit. By `paste-suc`.
 use mathlib.Core.Path.{_≡_, refl, _∙_}
 use Prim.Native.Nat.{_≤_, _-_}
 use native.Mathlib.Omega.{arith}

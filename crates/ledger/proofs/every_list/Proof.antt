@@ -1,4 +1,4 @@
--- `ledger::every_list` meets its contract, by `demand3`. Assumes nothing.
+-- `ledger::every_list` meets its contract, by `demand3`.
 use Rattle.ledger.proofs.EveryList.{demand3}
 use Rattle.ledger.proofs.every_list.Statement.{statement}
 use Rattle.ledger.proofs.every_list.Tie as tie

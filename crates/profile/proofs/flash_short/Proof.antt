@@ -1,4 +1,4 @@
--- `profile::flash_short` meets its contract: below O, a length is below O + S; from O on, by `ltb-sub`. Assumes nothing.
+-- `profile::flash_short` meets its contract: below O, a length is below O + S; from O on, by `ltb-sub`.
 use mathlib.Core.Path.{sym}
 use Prim.Native.Nat.{_+_}
 use native.Mathlib.Omega.{arith}

@@ -1,4 +1,4 @@
--- `profile::frame_in_range` meets its contract: each test of the code is one of the rule. Assumes nothing.
+-- `profile::frame_in_range` meets its contract: each test of the code is one of the rule.
 use borrow.Author.Tests.{le-leb, lt-leb}
 use Rattle.profile.proofs.frame_in_range.Statement.{statement}
 use Rattle.profile.proofs.frame_in_range.Tie as tie

@@ -1,5 +1,4 @@
 -- `profile::in_range` meets its contract: each test of the code is one of the rule; the page is 64, and a hardware type of one byte is at most 255.
--- Assumes nothing.
 use Prim.Native.Nat.{_≤_}
 use borrow.Author.Needs.{needs}
 use borrow.Author.Tests.{le-leb, lt-leb}

@@ -1,4 +1,4 @@
--- `profile::offset_in_range` meets its contract: each test of the code is one of the rule. Assumes nothing.
+-- `profile::offset_in_range` meets its contract: each test of the code is one of the rule.
 use borrow.Author.Tests.{eq-eqb, ne-eqb}
 use Rattle.profile.proofs.offset_in_range.Statement.{statement}
 use Rattle.profile.proofs.offset_in_range.Tie as tie

@@ -1,4 +1,4 @@
--- `profile::refuse` meets its contract: its four tests are those of `refusal`, in the same order (`refusal-firstOf`). Assumes nothing.
+-- `profile::refuse` meets its contract: its four tests are those of `refusal`, in the same order (`refusal-firstOf`).
 use mathlib.Core.Path.{refl}
 use borrow.Author.Needs.{needs}
 use Rattle.profile.specs.View.{checkOf}

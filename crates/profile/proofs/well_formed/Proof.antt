@@ -1,4 +1,4 @@
--- `profile::well_formed` meets its contract: the upload by `upload_formed`, the last reply by its length. Assumes nothing.
+-- `profile::well_formed` meets its contract: the upload by `upload_formed`, the last reply by its length.
 use mathlib.Core.Path.{refl}
 use Prim.Native.Nat.{_<_}
 use lib.ListN.{length}

@@ -1,4 +1,4 @@
--- `profile_bytes::bus_of` meets its contract, by its test. Assumes nothing.
+-- `profile_bytes::bus_of` meets its contract, by its test.
 use borrow.Author.Tests.{eq-eqb, ne-eqb}
 use Rattle.profile_bytes.proofs.bus_of.Statement.{statement}
 use Rattle.profile_bytes.proofs.bus_of.Tie as tie

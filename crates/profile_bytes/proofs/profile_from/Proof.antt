@@ -1,4 +1,4 @@
--- `profile_bytes::profile_from` meets its contract: its tests are those of `profileHeld`. Assumes nothing.
+-- `profile_bytes::profile_from` meets its contract: its tests are those of `profileHeld`.
 use borrow.Author.Tests.{lt-leb, le-leb}
 use borrow.Author.Needs.{needs}
 use Rattle.profile_bytes.specs.ProfileBytes.{profileAt}

@@ -1,4 +1,4 @@
--- `profile_bytes::profile_said` meets its contract: each field is read as the definition says. Assumes nothing.
+-- `profile_bytes::profile_said` meets its contract: each field is read as the definition says.
 use borrow.Author.Needs.{needs}
 use Rattle.profile_bytes.proofs.profile_said.Statement.{statement}
 use Rattle.profile_bytes.proofs.profile_said.Tie as tie

@@ -1,4 +1,4 @@
--- `queries::hardware_info` meets its contract, by those of `reply` and `two_bytes`. Assumes nothing.
+-- `queries::hardware_info` meets its contract, by those of `reply` and `two_bytes`.
 use borrow.Author.Needs.{needs}
 use Rattle.queries.proofs.hardware_info.Statement.{statement}
 use Rattle.queries.proofs.hardware_info.Tie as tie

@@ -1,4 +1,4 @@
--- `queries::longest_results` meets its contract, by the bus. Assumes nothing.
+-- `queries::longest_results` meets its contract, by the bus.
 use native.Mathlib.Omega.{arith}
 use borrow.Author.Needs.{needs}
 use Rattle.queries.proofs.longest_results.Statement.{statement}

@@ -1,4 +1,4 @@
--- `queries::read` meets its contract: its two tests are `readable`, and the part of flash that it lays over the buffer is the one asked. Assumes nothing.
+-- `queries::read` meets its contract: its two tests are `readable`, and the part of flash that it lays over the buffer is the one asked.
 use Rattle.response.proofs.Laws.{few-fit, results-fit}
 use Rattle.rules.specs.Commands.{shown}
 use Rattle.rules.specs.Frames.{shortestReply}

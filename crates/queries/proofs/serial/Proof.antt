@@ -1,4 +1,4 @@
--- `queries::serial` meets its contract: the first bytes of the array are the serial in use. Assumes nothing.
+-- `queries::serial` meets its contract: the first bytes of the array are the serial in use.
 use borrow.Author.Tests.{eq-eqb, ne-eqb}
 use Rattle.laws.proofs.StateLaws.{used-take, length-used}
 use lib.Seq.{length-take-le}

@@ -1,4 +1,4 @@
--- `readout::i2c_read_answered` meets its contract, by its tests. Assumes nothing.
+-- `readout::i2c_read_answered` meets its contract, by its tests.
 use Rattle.laws.proofs.StateLaws.{length-used}
 use borrow.Author.Tests.{eq-eqb, ne-eqb, not-true, not-false}
 use native.Mathlib.Omega.{arith}

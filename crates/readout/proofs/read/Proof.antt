@@ -1,4 +1,4 @@
--- `readout::read` meets its contract: refused by the first of 2 to 5 that applies with all untouched, else the last reply. Assumes nothing.
+-- `readout::read` meets its contract: refused by the first of 2 to 5 that applies with all untouched, else the last reply.
 use Rattle.laws.proofs.StateLaws.{Unrefused}
 use Rattle.rules.specs.State.{used}
 use Rattle.rules.specs.Numbers.{laid, refusal}

@@ -1,4 +1,4 @@
--- `readout::read_answered` meets its contract, by the bus. Assumes nothing.
+-- `readout::read_answered` meets its contract, by the bus.
 use borrow.Author.Needs.{needs}
 use Rattle.readout.proofs.read_answered.Statement.{statement}
 use Rattle.readout.proofs.read_answered.Tie as tie

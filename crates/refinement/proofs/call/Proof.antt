@@ -1,4 +1,4 @@
--- `refinement::call` meets its contract: the contract of `board::receive` for kind 0, else that of `readout::read`. Assumes nothing.
+-- `refinement::call` meets its contract: the contract of `board::receive` for kind 0, else that of `readout::read`.
 use borrow.Author.Needs.{needs}
 use borrow.Author.Tests.{eq-eqb, ne-eqb}
 use Rattle.refinement.proofs.call.Statement.{statement}

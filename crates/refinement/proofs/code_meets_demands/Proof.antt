@@ -1,4 +1,4 @@
--- `refinement::code_meets_demands` meets its contract: by `Meets`. Assumes nothing.
+-- `refinement::code_meets_demands` meets its contract: by `Meets`.
 use Rattle.refinement.proofs.Meets.{code-meets-demands}
 use Rattle.refinement.proofs.code_meets_demands.Statement.{statement}
 use Rattle.refinement.proofs.code_meets_demands.Tie as tie

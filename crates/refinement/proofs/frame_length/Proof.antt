@@ -1,4 +1,4 @@
--- `refinement::frame_length` meets its contract: the third and the fourth byte of the record, each below 256. Assumes nothing.
+-- `refinement::frame_length` meets its contract: the third and the fourth byte of the record, each below 256.
 use Prim.Native.Nat.{_+_}
 use native.Mathlib.Omega.{arith}
 use lib.Seq.{getD-drop}

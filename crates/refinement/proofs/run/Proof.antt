@@ -1,5 +1,5 @@
 -- `refinement::run` meets its contract. Invariant: `Reached`, the records before `at` were followed. A turn follows one more, by `reached-record`; where
--- no whole record stands at `at`, the script is at its end, by `reached-end`. Assumes nothing.
+-- no whole record stands at `at`, the script is at its end, by `reached-end`.
 use mathlib.Core.Path.{_≡_, refl}
 use Prim.Native.Nat.{_+_, _-_}
 use native.Mathlib.Omega.{arith}

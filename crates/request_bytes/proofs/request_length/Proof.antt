@@ -1,4 +1,4 @@
--- `request_bytes::request_length` meets its contract: each arm is the line of the definition for its request. Assumes nothing.
+-- `request_bytes::request_length` meets its contract: each arm is the line of the definition for its request.
 use native.Mathlib.Omega.{arith}
 use borrow.Author.Needs.{needs}
 use Rattle.laws.proofs.FrameLaws.{shortestRequest-le}

@@ -1,4 +1,4 @@
--- `request_bytes::write_request` meets its contract: each arm writes the line of the definition for its request. Assumes nothing.
+-- `request_bytes::write_request` meets its contract: each arm writes the line of the definition for its request.
 use native.Mathlib.Omega.{arith}
 use borrow.Author.Needs.{needs}
 use Rattle.rules.specs.Master.{requestBytes}

@@ -1,4 +1,4 @@
--- `request_range::address_over` meets its contract: on either bus both sides are the same test. Assumes nothing.
+-- `request_range::address_over` meets its contract: on either bus both sides are the same test.
 use borrow.Author.Needs.{needs}
 use Rattle.request_range.proofs.address_over.Statement.{statement}
 use Rattle.request_range.proofs.address_over.Tie as tie

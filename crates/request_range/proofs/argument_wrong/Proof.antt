@@ -1,4 +1,4 @@
--- `request_range::argument_wrong` meets its contract: each arm is the line of the definition for its request. Assumes nothing.
+-- `request_range::argument_wrong` meets its contract: each arm is the line of the definition for its request.
 use borrow.Author.Needs.{needs}
 use Rattle.rules.specs.Master.{argumentWrong}
 use Rattle.request_range.proofs.argument_wrong.Statement.{statement}

@@ -1,4 +1,4 @@
--- `request_range::command_wrong` meets its contract: each return follows the definition past the tests that were passed. Assumes nothing.
+-- `request_range::command_wrong` meets its contract: each return follows the definition past the tests that were passed.
 use native.Mathlib.Omega.{arith}
 use borrow.Author.Needs.{needs}
 use borrow.Author.Tests.{lt-ltb, le-ltb, eq-eqb, ne-eqb, not-true, not-false}

@@ -1,4 +1,4 @@
--- `request_range::read_wrong` meets its contract: both sides are the same two tests. Assumes nothing.
+-- `request_range::read_wrong` meets its contract: both sides are the same two tests.
 use native.Mathlib.Omega.{arith}
 use borrow.Author.Needs.{needs}
 use borrow.Author.Tests.{lt-ltb, le-ltb}

@@ -1,4 +1,4 @@
--- `request_range::set_address_wrong` meets its contract: both sides are the same two tests. Assumes nothing.
+-- `request_range::set_address_wrong` meets its contract: both sides are the same two tests.
 use borrow.Author.Needs.{needs}
 use Rattle.request_range.proofs.set_address_wrong.Statement.{statement}
 use Rattle.request_range.proofs.set_address_wrong.Tie as tie

@@ -1,4 +1,4 @@
--- `response::reply` meets its contract: the results are laid over the buffer. Assumes nothing.
+-- `response::reply` meets its contract: the results are laid over the buffer.
 use borrow.Author.Needs.{needs}
 use Rattle.response.proofs.reply.Statement.{statement}
 use Rattle.response.proofs.reply.Tie as tie

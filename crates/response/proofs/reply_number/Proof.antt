@@ -1,4 +1,4 @@
--- `response::reply_number` meets its contract, by those of `reply` and `two_bytes`. Assumes nothing.
+-- `response::reply_number` meets its contract, by those of `reply` and `two_bytes`.
 use borrow.Author.Needs.{needs}
 use Rattle.response.proofs.reply_number.Statement.{statement}
 use Rattle.response.proofs.reply_number.Tie as tie

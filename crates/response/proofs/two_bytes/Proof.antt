@@ -1,4 +1,4 @@
--- `response::two_bytes` meets its contract: the number is below 65,536. Assumes nothing.
+-- `response::two_bytes` meets its contract: the number is below 65,536.
 use Prim.Native.Nat.{_/_, _%_}
 use mathlib.Core.Path.{_≡_}
 use native.Mathlib.Omega.{arith}

@@ -1,4 +1,4 @@
--- `roundtrip::replies_read` meets its contract: by `Replies`. Assumes nothing.
+-- `roundtrip::replies_read` meets its contract: by `Replies`.
 use Rattle.roundtrip.proofs.Replies.{replies-read}
 use Rattle.roundtrip.proofs.replies_read.Statement.{statement}
 use Rattle.roundtrip.proofs.replies_read.Tie as tie

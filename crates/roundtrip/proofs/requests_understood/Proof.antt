@@ -1,4 +1,4 @@
--- `roundtrip::requests_understood` meets its contract: by `Requests`. Assumes nothing.
+-- `roundtrip::requests_understood` meets its contract: by `Requests`.
 use Rattle.roundtrip.proofs.Requests.{requests-understood}
 use Rattle.roundtrip.proofs.requests_understood.Statement.{statement}
 use Rattle.roundtrip.proofs.requests_understood.Tie as tie

@@ -1,4 +1,4 @@
--- `roundtrip::upload_roundtrip` meets its contract: by `Uploads`. Assumes nothing.
+-- `roundtrip::upload_roundtrip` meets its contract: by `Uploads`.
 use Rattle.roundtrip.proofs.Uploads.{upload-roundtrip}
 use Rattle.roundtrip.proofs.upload_roundtrip.Statement.{statement}
 use Rattle.roundtrip.proofs.upload_roundtrip.Tie as tie

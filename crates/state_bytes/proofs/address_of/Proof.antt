@@ -1,4 +1,4 @@
--- `state_bytes::address_of` meets its contract, by its test. Assumes nothing.
+-- `state_bytes::address_of` meets its contract, by its test.
 use borrow.Author.Tests.{eq-eqb, ne-eqb}
 use Rattle.state_bytes.proofs.address_of.Statement.{statement}
 use Rattle.state_bytes.proofs.address_of.Tie as tie

@@ -1,4 +1,4 @@
--- `state_bytes::reply_at` meets its contract: the part is laid over all of an array as long. Assumes nothing.
+-- `state_bytes::reply_at` meets its contract: the part is laid over all of an array as long.
 use mathlib.Core.Path.{_∙_}
 use native.Mathlib.Omega.{arith}
 use lib.ListN.{length-take, length-drop}

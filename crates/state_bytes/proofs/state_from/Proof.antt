@@ -1,4 +1,4 @@
--- `state_bytes::state_from` meets its contract: its tests are those of `stateHeld`. Assumes nothing.
+-- `state_bytes::state_from` meets its contract: its tests are those of `stateHeld`.
 use borrow.Author.Tests.{lt-leb, le-leb}
 use borrow.Author.Needs.{needs}
 use Rattle.state_bytes.specs.StateBytes.{stateAt}

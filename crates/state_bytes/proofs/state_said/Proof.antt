@@ -1,4 +1,4 @@
--- `state_bytes::state_said` meets its contract: each field is read as the definition says. Assumes nothing.
+-- `state_bytes::state_said` meets its contract: each field is read as the definition says.
 use borrow.Author.Needs.{needs}
 use Rattle.state_bytes.proofs.state_said.Statement.{statement}
 use Rattle.state_bytes.proofs.state_said.Tie as tie

@@ -1,4 +1,4 @@
--- `state_bytes::state_to` meets its contract: what it stores lies one behind the other, by `stored`. Assumes nothing.
+-- `state_bytes::state_to` meets its contract: what it stores lies one behind the other, by `stored`.
 use mathlib.Core.Path.{_≡_, sym}
 use native.Mathlib.Omega.{arith}
 use lib.ListN.{length}

@@ -1,4 +1,4 @@
--- `state_bytes::store_head` meets its contract: its stores lie one behind the other, by `stored-head`. Assumes nothing.
+-- `state_bytes::store_head` meets its contract: its stores lie one behind the other, by `stored-head`.
 use borrow.Author.Needs.{needs}
 use Rattle.state_bytes.proofs.Laws.{stored-head}
 use Rattle.state_bytes.proofs.store_head.Statement.{statement}

@@ -1,4 +1,4 @@
--- `sumcases::write_all_sums` is safe and ends: `at` stays within the input and moves on by two bytes or more. Assumes nothing.
+-- `sumcases::write_all_sums` is safe and ends: `at` stays within the input and moves on by two bytes or more.
 use Prim.Native.Nat.{_≤_, _-_}
 use borrow.Author.Needs.{needs}
 use lib.ListN.{length}

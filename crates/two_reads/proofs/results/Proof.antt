@@ -1,4 +1,4 @@
--- `two_reads::results` meets its contract: the part of the first read that decodes is its results, by `part-results`. Assumes nothing.
+-- `two_reads::results` meets its contract: the part of the first read that decodes is its results, by `part-results`.
 use mathlib.Core.Path.{ap}
 use Prim.Native.Nat.{ℕ}
 use native.Mathlib.Omega.{arith}

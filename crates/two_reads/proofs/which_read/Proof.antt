@@ -1,4 +1,4 @@
--- `two_reads::which_read` meets its contract: a read decodes exactly if its answer is a reply. Assumes nothing.
+-- `two_reads::which_read` meets its contract: a read decodes exactly if its answer is a reply.
 use borrow.Author.Needs.{needs}
 use Rattle.rules.specs.Master.{whichRead}
 use Rattle.decoder.proofs.ReadsLaws.{decodes-refused, decodes-reply}

@@ -1,4 +1,4 @@
--- `updates::address_taken` meets its contract, by the bus. Assumes nothing.
+-- `updates::address_taken` meets its contract, by the bus.
 use borrow.Author.Needs.{needs}
 use Rattle.updates.proofs.address_taken.Statement.{statement}
 use Rattle.updates.proofs.address_taken.Tie as tie

@@ -1,4 +1,4 @@
--- `updates::set_address` meets its contract: its test is the definition's, and the address is taken over. Assumes nothing.
+-- `updates::set_address` meets its contract: its test is the definition's, and the address is taken over.
 use Rattle.rules.specs.Commands.{setAddress}
 use borrow.Author.Tests.{eq-eqb, ne-eqb, not-true, not-false}
 use borrow.Author.Needs.{needs}

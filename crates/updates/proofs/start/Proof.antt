@@ -1,4 +1,4 @@
--- `updates::start` meets its contract: the state is the started one. Assumes nothing.
+-- `updates::start` meets its contract: the state is the started one.
 use borrow.Author.Needs.{needs}
 use Rattle.updates.proofs.start.Statement.{statement}
 use Rattle.updates.proofs.start.Tie as tie

@@ -1,4 +1,4 @@
--- `updates::type_matches` meets its contract, by its tests. Assumes nothing.
+-- `updates::type_matches` meets its contract, by its tests.
 use borrow.Author.Tests.{eq-eqb, ne-eqb, not-true, not-false}
 use Rattle.updates.proofs.type_matches.Statement.{statement}
 use Rattle.updates.proofs.type_matches.Tie as tie

@@ -1,4 +1,4 @@
--- `upload::commit_counted` meets its contract: the count rises by one exactly where the commit tells a change. Assumes nothing.
+-- `upload::commit_counted` meets its contract: the count rises by one exactly where the commit tells a change.
 use mathlib.Core.Path.{_≡_, sym, _∙_}
 use mathlib.Core.Bool.{Bool, true, false, not, cond}
 use mathlib.Core.List.{List}

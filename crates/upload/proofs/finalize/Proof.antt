@@ -1,5 +1,5 @@
 -- `upload::finalize` meets its contract: nothing waiting leaves all as it is, else the waiting bytes lie in one page and are committed there.
--- By `finalized-none`, `finalized-some` and `committed-counted`. Assumes nothing.
+-- By `finalized-none`, `finalized-some` and `committed-counted`.
 use mathlib.Core.Path.{_≡_, refl, sym, _∙_}
 use native.Mathlib.Omega.{arith}
 use lib.ListN.{length, length-take}

@@ -1,5 +1,5 @@
 -- `upload::take` meets its contract. Invariant: `Reached`, where the first i bytes lead. A turn takes a part that lies in one page, by `turn-appended`
--- or `turn-committed`. Assumes nothing.
+-- or `turn-committed`.
 use Prim.Native.Nat.{_-_}
 use native.Mathlib.Omega.{arith}
 use lib.ListN.{length, length-take, length-drop}

@@ -1,4 +1,4 @@
--- `upload_commands::accepts` meets its contract, by its tests. Assumes nothing.
+-- `upload_commands::accepts` meets its contract, by its tests.
 use borrow.Author.Tests.{eq-eqb, ne-eqb, not-true, not-false}
 use borrow.Author.Needs.{needs}
 use Rattle.upload_commands.proofs.accepts.Statement.{statement}

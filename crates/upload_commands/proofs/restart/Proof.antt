@@ -1,4 +1,4 @@
--- `upload_commands::restart` meets its contract, by its test. Assumes nothing.
+-- `upload_commands::restart` meets its contract, by its test.
 use borrow.Author.Tests.{eq-eqb, ne-eqb, not-true, not-false}
 use borrow.Author.Needs.{needs}
 use Rattle.upload_commands.proofs.restart.Statement.{statement}

@@ -1,4 +1,4 @@
--- `upload_commands::write` meets its contract: its test is `accepted`, and an accepted write is taken by `upload::take`. Assumes nothing.
+-- `upload_commands::write` meets its contract: its test is `accepted`, and an accepted write is taken by `upload::take`.
 use Rattle.upload_commands.proofs.Laws.{take-rest, ready, upload-formed, restarted-formed, accepted-fits}
 use Rattle.rules.specs.Commands.{accepted, restarted, written}
 use borrow.Author.Tests.{not-true, not-false}

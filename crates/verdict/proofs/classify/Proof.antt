@@ -1,4 +1,4 @@
--- `verdict::classify` meets its contract: its tests are those of the definition, in its order. Assumes nothing.
+-- `verdict::classify` meets its contract: its tests are those of the definition, in its order.
 use Rattle.rules.specs.Frames.{verdict, framing}
 use borrow.Author.Needs.{needs}
 use Rattle.verdict.proofs.classify.Statement.{statement}

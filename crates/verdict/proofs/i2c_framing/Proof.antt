@@ -1,4 +1,4 @@
--- `verdict::i2c_framing` meets its contract: its tests are those of the definition, in its order. Assumes nothing.
+-- `verdict::i2c_framing` meets its contract: its tests are those of the definition, in its order.
 use Rattle.rules.specs.Frames.{framing}
 use borrow.Author.Tests.{eq-eqb, ne-eqb, lt-ltb, le-ltb, not-true, not-false}
 use borrow.Author.Needs.{needs}

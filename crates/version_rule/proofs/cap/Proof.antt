@@ -1,4 +1,4 @@
--- `version_rule::cap` meets its contract: both sides are the same test. Assumes nothing.
+-- `version_rule::cap` meets its contract: both sides are the same test.
 use borrow.Author.Tests.{lt-ltb, le-ltb}
 use Rattle.version_rule.proofs.cap.Statement.{statement}
 use Rattle.version_rule.proofs.cap.Tie as tie

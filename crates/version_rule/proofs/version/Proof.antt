@@ -1,4 +1,4 @@
--- `version_rule::version` meets its contract: each arm is the rule for its major. Assumes nothing.
+-- `version_rule::version` meets its contract: each arm is the rule for its major.
 use borrow.Author.Needs.{needs}
 use borrow.Author.Tests.{ne-eqb}
 use Rattle.rules.specs.Master.{versionRule}

@@ -1,4 +1,4 @@
--- `wrongboards::counts_unchanged` meets its contract: an upload of the byte 7, made again, counts 1. Assumes nothing.
+-- `wrongboards::counts_unchanged` meets its contract: an upload of the byte 7, made again, counts 1.
 use mathlib.Core.Path.{_≡_, refl}
 use mathlib.Core.List.{List, [], _∷_}
 use Prim.Native.Nat.{ℕ}

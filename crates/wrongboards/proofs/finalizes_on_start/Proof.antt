@@ -1,4 +1,4 @@
--- `wrongboards::finalizes_on_start` meets its contract: after the byte 7 and start, flash has 7 where the book still has 0. Assumes nothing.
+-- `wrongboards::finalizes_on_start` meets its contract: after the byte 7 and start, flash has 7 where the ledger still has 0.
 use mathlib.Core.Path.{_≡_, ap}
 use mathlib.Core.List.{List, [], _∷_}
 use Prim.Native.Nat.{ℕ}

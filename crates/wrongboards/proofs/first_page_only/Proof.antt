@@ -1,4 +1,4 @@
--- `wrongboards::first_page_only` meets its contract: after an upload of 65 bytes 7, flash has 0 where the last of them belongs. Assumes nothing.
+-- `wrongboards::first_page_only` meets its contract: after an upload of 65 bytes 7, flash has 0 where the last of them belongs.
 use mathlib.Core.Path.{_≡_, refl}
 use mathlib.Core.List.{[], _∷_}
 use Prim.Native.Nat.{ℕ, _<_}

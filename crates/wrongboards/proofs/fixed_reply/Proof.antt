@@ -1,4 +1,4 @@
--- `wrongboards::fixed_reply` meets its contract: the version request asks for 2, 2 and a read of flash that is 0 for 0, 0. Assumes nothing.
+-- `wrongboards::fixed_reply` meets its contract: the version request asks for 2, 2 and a read of flash that is 0 for 0, 0.
 use mathlib.Core.Path.{_≡_, refl, sym, ap, _∙_}
 use mathlib.Core.List.{List, [], _∷_}
 use Prim.Native.Nat.{ℕ}

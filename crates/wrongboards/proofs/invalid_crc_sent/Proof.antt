@@ -1,4 +1,4 @@
--- `wrongboards::invalid_crc_sent` meets its contract: a damaged version request gets number 0. Assumes nothing.
+-- `wrongboards::invalid_crc_sent` meets its contract: a damaged version request gets number 0.
 use mathlib.Core.Path.{_≡_, refl}
 use mathlib.Core.List.{[], _∷_}
 use Prim.Native.Nat.{ℕ}

@@ -1,4 +1,4 @@
--- `wrongboards::invents_count` meets its contract: a finalize of nothing says 1. Assumes nothing.
+-- `wrongboards::invents_count` meets its contract: a finalize of nothing says 1.
 use mathlib.Core.Path.{_≡_, refl}
 use mathlib.Core.List.{[], _∷_}
 use Prim.Native.Nat.{ℕ}

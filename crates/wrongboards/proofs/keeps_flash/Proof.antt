@@ -1,4 +1,4 @@
--- `wrongboards::keeps_flash` meets its contract: after an upload of the byte 7, flash has 0 there. Assumes nothing.
+-- `wrongboards::keeps_flash` meets its contract: after an upload of the byte 7, flash has 0 there.
 use mathlib.Core.Path.{_≡_, refl}
 use mathlib.Core.List.{[], _∷_}
 use Prim.Native.Nat.{ℕ, _<_}

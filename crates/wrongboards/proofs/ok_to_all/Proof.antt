@@ -1,4 +1,4 @@
--- `wrongboards::ok_to_all` meets its contract: a byte at 5, where 0 is next, gets status 0. Assumes nothing.
+-- `wrongboards::ok_to_all` meets its contract: a byte at 5, where 0 is next, gets status 0.
 use mathlib.Core.Path.{_≡_, refl, ap}
 use mathlib.Core.List.{List, [], _∷_}
 use Prim.Native.Nat.{ℕ}

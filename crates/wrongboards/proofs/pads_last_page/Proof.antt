@@ -1,4 +1,4 @@
--- `wrongboards::pads_last_page` meets its contract: after an upload of one byte, the byte behind it has become 0xFF. Assumes nothing.
+-- `wrongboards::pads_last_page` meets its contract: after an upload of one byte, the byte behind it has become 0xFF.
 use mathlib.Core.Path.{_≡_, refl}
 use mathlib.Core.Logic.{inr}
 use mathlib.Core.List.{[], _∷_}

@@ -1,4 +1,4 @@
--- `wrongboards::refuses_writes` meets its contract: a first byte at 0 gets status 5. Assumes nothing.
+-- `wrongboards::refuses_writes` meets its contract: a first byte at 0 gets status 5.
 use mathlib.Core.Path.{_≡_, refl, ap}
 use mathlib.Core.List.{List, [], _∷_}
 use Prim.Native.Nat.{ℕ}

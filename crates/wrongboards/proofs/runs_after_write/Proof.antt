@@ -1,4 +1,4 @@
--- `wrongboards::runs_after_write` meets its contract: the second of two bytes in order gets number 1. Assumes nothing.
+-- `wrongboards::runs_after_write` meets its contract: the second of two bytes in order gets number 1.
 use mathlib.Core.Path.{_≡_, refl}
 use mathlib.Core.List.{[], _∷_}
 use Prim.Native.Nat.{ℕ}

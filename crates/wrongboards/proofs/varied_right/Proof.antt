@@ -1,4 +1,4 @@
--- `wrongboards::varied_right` meets its contract: by the law of the same name. Assumes nothing.
+-- `wrongboards::varied_right` meets its contract: by the law of the same name.
 use Rattle.wrongboards.proofs.VariationLaws.{varied-right}
 use Rattle.wrongboards.proofs.varied_right.Statement.{statement}
 use Rattle.wrongboards.proofs.varied_right.Tie as tie

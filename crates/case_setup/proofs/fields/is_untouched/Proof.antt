@@ -1,4 +1,4 @@
--- `case_setup::fields::is_untouched` is safe and ends. Nothing has to hold from turn to turn. Assumes nothing.
+-- `case_setup::fields::is_untouched` is safe and ends. Nothing has to hold from turn to turn.
 use Prim.Native.Nat.{_-_}
 use native.Mathlib.Omega.{arith}
 use borrow.Author.Needs.{needs}

@@ -1,4 +1,4 @@
--- `case_setup::setup::fill` is safe and ends. Assumes nothing.
+-- `case_setup::setup::fill` is safe and ends.
 use mathlib.Core.Path.{_≡_}
 use Prim.Native.Nat.{_≤_, _<_, _-_}
 use native.Mathlib.Omega.{arith}

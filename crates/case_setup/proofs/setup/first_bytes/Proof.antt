@@ -1,4 +1,4 @@
--- `case_setup::setup::first_bytes` is safe and ends. Assumes nothing.
+-- `case_setup::setup::first_bytes` is safe and ends.
 use Prim.Native.Nat.{_≤_, _-_}
 use native.Mathlib.Omega.{arith}
 use borrow.Author.Needs.{needs}

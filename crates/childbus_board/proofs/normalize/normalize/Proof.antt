@@ -1,4 +1,4 @@
--- `childbus_board::normalize::normalize` meets its contract: its two buffers are settled. Assumes nothing.
+-- `childbus_board::normalize::normalize` meets its contract: its two buffers are settled.
 use borrow.Author.Needs.{needs}
 use Rattle.childbus_board.proofs.normalize.normalize.Statement.{statement}
 use Rattle.childbus_board.proofs.normalize.normalize.Tie as tie

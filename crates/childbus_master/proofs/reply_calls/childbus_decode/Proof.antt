@@ -1,4 +1,4 @@
--- `childbus_decode` meets its contract, by what `decoder::decode::decode` promises. Assumes nothing.
+-- `childbus_decode` meets its contract, by what `decoder::decode::decode` promises.
 use borrow.Author.Tests.{lt-ltb}
 use borrow.Author.Needs.{needs}
 use Rattle.childbus_master.proofs.MasterLaws.{decoded-refusal, decoded-reply}

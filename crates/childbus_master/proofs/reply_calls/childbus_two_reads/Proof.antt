@@ -1,4 +1,4 @@
--- `childbus_two_reads` meets its contract: a read decodes exactly if its answer is a reply. Assumes nothing.
+-- `childbus_two_reads` meets its contract: a read decodes exactly if its answer is a reply.
 use borrow.Author.Needs.{needs}
 use Rattle.rules.specs.Master.{whichRead}
 use Rattle.childbus_master.specs.MasterBytes.{chosenRead}

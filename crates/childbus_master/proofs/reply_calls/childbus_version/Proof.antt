@@ -1,4 +1,4 @@
--- `childbus_version` meets its contract: numbers over 255 count as 255 does. Assumes nothing.
+-- `childbus_version` meets its contract: numbers over 255 count as 255 does.
 use mathlib.Core.Path.{sym, ap, _∙_}
 use borrow.Author.Needs.{needs}
 use Rattle.rules.specs.Master.{ruledAs}

@@ -1,4 +1,4 @@
--- The part that `childbus_two_reads` names is the result bytes of the rules, by `chosen-results`. Assumes nothing.
+-- The part that `childbus_two_reads` names is the result bytes of the rules, by `chosen-results`.
 use Rattle.childbus_master.proofs.MasterLaws.{chosen-results}
 use Rattle.childbus_master.proofs.reply_calls.two_reads_agree.Statement.{statement}
 use Rattle.childbus_master.proofs.reply_calls.two_reads_agree.Tie as tie

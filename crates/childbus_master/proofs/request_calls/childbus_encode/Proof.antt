@@ -1,4 +1,4 @@
--- `childbus_encode` meets its contract: the request is the one that its arguments say. Assumes nothing.
+-- `childbus_encode` meets its contract: the request is the one that its arguments say.
 use borrow.Author.Needs.{needs}
 use Rattle.childbus_master.proofs.request_calls.childbus_encode.Statement.{statement}
 use Rattle.childbus_master.proofs.request_calls.childbus_encode.Tie as tie

@@ -1,4 +1,4 @@
--- `childbus_general` meets its contract: the request is the general call that its argument says. Assumes nothing.
+-- `childbus_general` meets its contract: the request is the general call that its argument says.
 use borrow.Author.Needs.{needs}
 use Rattle.childbus_master.proofs.request_calls.childbus_general.Statement.{statement}
 use Rattle.childbus_master.proofs.request_calls.childbus_general.Tie as tie

@@ -1,4 +1,4 @@
--- `childbus_master::request_calls::encode_request` meets its contract, by what `encoder::encode::encode` promises. Assumes nothing.
+-- `childbus_master::request_calls::encode_request` meets its contract, by what `encoder::encode::encode` promises.
 use borrow.Author.Tests.{lt-ltb}
 use borrow.Author.Needs.{needs}
 use Rattle.childbus_master.proofs.MasterLaws.{encoded-left}

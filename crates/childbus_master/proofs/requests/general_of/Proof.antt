@@ -1,4 +1,4 @@
--- `childbus_master::requests::general_of` meets its contract, by its test. Assumes nothing.
+-- `childbus_master::requests::general_of` meets its contract, by its test.
 use borrow.Author.Tests.{eq-eqb, ne-eqb}
 use Rattle.childbus_master.proofs.requests.general_of.Statement.{statement}
 use Rattle.childbus_master.proofs.requests.general_of.Tie as tie

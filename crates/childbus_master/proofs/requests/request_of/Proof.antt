@@ -1,4 +1,4 @@
--- `childbus_master::requests::request_of` meets its contract: its arms are the tests of `requestOf`. Assumes nothing.
+-- `childbus_master::requests::request_of` meets its contract: its arms are the tests of `requestOf`.
 use borrow.Author.Tests.{ne-eqb}
 use Rattle.childbus_master.specs.MasterBytes.{requestOf}
 use Rattle.childbus_master.proofs.requests.request_of.Statement.{statement}

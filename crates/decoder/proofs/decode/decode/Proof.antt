@@ -1,4 +1,4 @@
--- `decoder::decode::decode` meets its contract: each return follows the definition past the tests that were passed. Assumes nothing.
+-- `decoder::decode::decode` meets its contract: each return follows the definition past the tests that were passed.
 use mathlib.Core.Path.{_≡_, sym, _∙_}
 use Prim.Native.Nat.{_+_}
 use native.Mathlib.Omega.{arith}

@@ -1,4 +1,4 @@
--- `decoder::decode::fixed_part` meets its contract: each arm is the row of the definition for its code. Assumes nothing.
+-- `decoder::decode::fixed_part` meets its contract: each arm is the row of the definition for its code.
 use borrow.Author.Tests.{ne-eqb}
 use Rattle.rules.specs.Master.{fixedPart}
 use Rattle.decoder.proofs.decode.fixed_part.Statement.{statement}

@@ -1,4 +1,4 @@
--- `decoder::decode::from_other` meets its contract: on RS485 both sides are the same test of the first byte. Assumes nothing.
+-- `decoder::decode::from_other` meets its contract: on RS485 both sides are the same test of the first byte.
 use borrow.Author.Needs.{needs}
 use Rattle.decoder.proofs.decode.from_other.Statement.{statement}
 use Rattle.decoder.proofs.decode.from_other.Tie as tie

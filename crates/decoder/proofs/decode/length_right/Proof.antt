@@ -1,4 +1,4 @@
--- `decoder::decode::length_right` meets its contract: on either bus both sides are the same test. Assumes nothing.
+-- `decoder::decode::length_right` meets its contract: on either bus both sides are the same test.
 use borrow.Author.Needs.{needs}
 use Rattle.decoder.proofs.decode.length_right.Statement.{statement}
 use Rattle.decoder.proofs.decode.length_right.Tie as tie

@@ -1,4 +1,4 @@
--- `decoder::decode::open_reply` meets its contract: each return follows the definition past the tests that were passed. Assumes nothing.
+-- `decoder::decode::open_reply` meets its contract: each return follows the definition past the tests that were passed.
 use mathlib.Core.Path.{sym}
 use Prim.Native.Nat.{_+_}
 use native.Mathlib.Omega.{arith}

@@ -1,4 +1,4 @@
--- `decoder::decode::results_missing` meets its contract: only OK is held to the fixed part. Assumes nothing.
+-- `decoder::decode::results_missing` meets its contract: only OK is held to the fixed part.
 use borrow.Author.Needs.{needs}
 use borrow.Author.Tests.{eq-eqb, ne-eqb}
 use Rattle.decoder.proofs.decode.results_missing.Statement.{statement}

@@ -1,4 +1,4 @@
--- `encoder::encode::encode` meets its contract: each return follows the definition past the tests that were passed. Assumes nothing.
+-- `encoder::encode::encode` meets its contract: each return follows the definition past the tests that were passed.
 use mathlib.Core.Path.{refl, sym, _∙_}
 use lib.ListN.{length}
 use borrow.Author.Needs.{needs}

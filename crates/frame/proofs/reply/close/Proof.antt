@@ -1,4 +1,4 @@
--- `frame::reply::close` meets its contract: the head is laid over the buffer and sealed with the results. By `closed`. Assumes nothing.
+-- `frame::reply::close` meets its contract: the head is laid over the buffer and sealed with the results. By `closed`.
 use Rattle.frame.proofs.ReplyLaws.{closed}
 use Rattle.rules.specs.Frames.{shortestReply}
 use Rattle.rules.specs.Bytes.{overlay}

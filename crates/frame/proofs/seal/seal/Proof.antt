@@ -1,4 +1,4 @@
--- `frame::seal::seal` meets its contract: the check sum's bytes are set behind the first n. By `sealing-I2c` and `sealing-Rs485`. Assumes nothing.
+-- `frame::seal::seal` meets its contract: the check sum's bytes are set behind the first n. By `sealing-I2c` and `sealing-Rs485`.
 use mathlib.Core.Path.{_≡_, sym}
 use Prim.Native.Nat.{_+_, _≤_}
 use native.Mathlib.Omega.{arith}

@@ -1,4 +1,4 @@
--- `request_bytes::write::append` meets its contract: the part of the output behind the first n is copied to, by `makes-part`. Assumes nothing.
+-- `request_bytes::write::append` meets its contract: the part of the output behind the first n is copied to, by `makes-part`.
 use borrow.Author.Needs.{needs}
 use Rattle.request_bytes.proofs.WriteLaws.{makes-part}
 use Rattle.request_bytes.proofs.write.append.Statement.{statement}

@@ -1,4 +1,4 @@
--- `request_bytes::write::write_front` meets its contract: one store after the other, by `laid-snoc`. Assumes nothing.
+-- `request_bytes::write::write_front` meets its contract: one store after the other, by `laid-snoc`.
 use mathlib.Core.Path.{_≡_, refl}
 use mathlib.Core.List.{[], _∷_}
 use Prim.Native.Nat.{_≤_}

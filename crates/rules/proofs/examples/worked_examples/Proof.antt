@@ -1,4 +1,4 @@
--- `rules::examples::worked_examples` meets its contract: antt computes every row. Assumes nothing.
+-- `rules::examples::worked_examples` meets its contract: antt computes every row.
 use mathlib.Core.Path.{_≡_, refl}
 use mathlib.Core.List.{[]}
 use Rattle.rules.specs.Bytes.{same, overlay}

@@ -1,4 +1,4 @@
--- `state::Last::replaced` meets its contract. The loop's invariant: the buffer begins with the bytes of the reply that were passed. Assumes nothing.
+-- `state::Last::replaced` meets its contract. The loop's invariant: the buffer begins with the bytes of the reply that were passed.
 use mathlib.Core.Path.{_≡_, refl, _∙_}
 use Prim.Native.Nat.{_≤_, _-_}
 use native.Mathlib.Omega.{arith}

@@ -1,4 +1,4 @@
--- `state::State::address_reset` meets its contract: the two calls change the last reply and the address, and nothing else. Assumes nothing.
+-- `state::State::address_reset` meets its contract: the two calls change the last reply and the address, and nothing else.
 use mathlib.Core.Path.{ap, _∙_}
 use borrow.Author.Needs.{needs}
 use Rattle.rules.specs.declared.kinds.Bus.the-variants.{I2c}

@@ -1,4 +1,4 @@
--- `state::State::fresh` meets its contract: each field is written out, and no byte of either buffer is in use. Assumes nothing.
+-- `state::State::fresh` meets its contract: each field is written out, and no byte of either buffer is in use.
 use mathlib.Core.Path.{refl}
 use Rattle.rules.specs.State.{used}
 use Rattle.state.proofs.State.fresh.Statement.{statement}

@@ -1,4 +1,4 @@
--- `state::State::started` meets its contract: of a buffer 0 bytes are in use. Assumes nothing.
+-- `state::State::started` meets its contract: of a buffer 0 bytes are in use.
 use mathlib.Core.Path.{refl}
 use Rattle.rules.specs.State.{used}
 use Rattle.state.proofs.State.started.Statement.{statement}

@@ -1,4 +1,4 @@
--- `state::State::with_reply` meets its contract: on I²C the last reply is what `replaced` ensures, on RS485 there is none. Assumes nothing.
+-- `state::State::with_reply` meets its contract: on I²C the last reply is what `replaced` ensures, on RS485 there is none.
 use mathlib.Core.Path.{refl, _∙_}
 use borrow.Author.Needs.{needs}
 use Rattle.rules.specs.declared.kinds.Bus.the-variants.{Rs485}

@@ -1,4 +1,4 @@
--- `state::State::without_reply` meets its contract: of a buffer 0 bytes are in use, which is the empty list on either bus. Assumes nothing.
+-- `state::State::without_reply` meets its contract: of a buffer 0 bytes are in use, which is the empty list on either bus.
 use mathlib.Core.Path.{refl}
 use Rattle.rules.specs.declared.kinds.Bus.the-variants.{I2c, Rs485}
 use Rattle.rules.specs.State.{used}

@@ -1,4 +1,4 @@
--- `state::Upload::restarted` meets its contract: of a buffer 0 bytes are in use. Assumes nothing.
+-- `state::Upload::restarted` meets its contract: of a buffer 0 bytes are in use.
 use mathlib.Core.Path.{refl}
 use Rattle.rules.specs.State.{used}
 use Rattle.state.proofs.Upload.restarted.Statement.{statement}

@@ -1,4 +1,4 @@
--- `text::hash::fnv1a` meets its contract: the hash so far, taken over the bytes left, is the hash of all. Assumes nothing.
+-- `text::hash::fnv1a` meets its contract: the hash so far, taken over the bytes left, is the hash of all.
 use mathlib.Core.Path.{_≡_, sym, ap, _∙_}
 use Prim.Native.Nat.{ℕ, _≤_, _-_, _+_}
 use native.Mathlib.Omega.{arith}

@@ -1,4 +1,4 @@
--- `text::hash::hash_byte` meets its contract, which is that of `times_prime` at the sum without carry. Assumes nothing.
+-- `text::hash::hash_byte` meets its contract, which is that of `times_prime` at the sum without carry.
 use borrow.Author.Needs.{needs}
 use Rattle.text.specs.Hash.{hashedByte}
 use Rattle.text.proofs.hash.hash_byte.Statement.{statement}

@@ -1,5 +1,4 @@
 -- `text::hash::times_prime` meets its contract: the products by 2^40 and by the halves' 435, each in 64 bits, add up to the whole product.
--- Assumes nothing.
 use mathlib.Core.Path.{_≡_, sym, ap, _∙_}
 use Prim.Native.Nat.{ℕ, _+_, _*_, _/_, _%_, _^_}
 use native.Mathlib.Nat.{mod-add-mod, add-mod}

@@ -1,4 +1,4 @@
--- `text::part::first` meets its contract: a slice with no more than n bytes is its first n. Assumes nothing.
+-- `text::part::first` meets its contract: a slice with no more than n bytes is its first n.
 use borrow.Author.Needs.{needs}
 use mathlib.Core.Path.{sym}
 use native.Mathlib.Omega.{arith}

@@ -1,4 +1,4 @@
--- `text::part::within` meets its contract, by the test. Assumes nothing.
+-- `text::part::within` meets its contract, by the test.
 use native.Mathlib.Omega.{arith}
 use Rattle.io.proofs.Counting.{counts}
 use Rattle.text.proofs.part.within.Statement.{statement}

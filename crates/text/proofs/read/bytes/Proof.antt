@@ -1,4 +1,4 @@
--- `text::read::bytes` meets its contract: its tests are those of the definition, in the same order. Assumes nothing.
+-- `text::read::bytes` meets its contract: its tests are those of the definition, in the same order.
 use borrow.Author.Needs.{needs}
 use mathlib.Core.Path.{_≡_, refl, sym, _∙_}
 use mathlib.Core.Bool.{true, false}

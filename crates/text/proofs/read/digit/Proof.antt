@@ -1,4 +1,4 @@
--- `text::read::digit` meets its contract: its tests are those of the definition, in the order of the bytes. Assumes nothing.
+-- `text::read::digit` meets its contract: its tests are those of the definition, in the order of the bytes.
 use mathlib.Core.Path.{refl}
 use native.Mathlib.Omega.{arith}
 use borrow.Author.Needs.{needs}

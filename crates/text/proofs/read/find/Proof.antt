@@ -1,5 +1,5 @@
 -- `text::read::find` meets its contract: a place passed does not hold the byte, so the bytes before it, counted from the place reached,
--- end where they ended. Assumes nothing.
+-- end where they ended.
 use mathlib.Core.Path.{_≡_, ap}
 use Prim.Native.Nat.{_≤_, _-_, _+_}
 use native.Mathlib.Omega.{arith}

@@ -1,4 +1,4 @@
--- `text::read::hex_right` meets its contract: the pairs left are right exactly if all of them are. Assumes nothing.
+-- `text::read::hex_right` meets its contract: the pairs left are right exactly if all of them are.
 use mathlib.Core.Path.{_≡_, sym, _∙_}
 use Prim.Native.Nat.{_≤_, _-_}
 use native.Mathlib.Omega.{arith}

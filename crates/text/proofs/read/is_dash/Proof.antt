@@ -1,4 +1,4 @@
--- `text::read::is_dash` meets its contract. Assumes nothing.
+-- `text::read::is_dash` meets its contract.
 use borrow.Author.Needs.{needs}
 use mathlib.Core.Path.{sym}
 use native.Mathlib.Omega.{arith}

@@ -1,4 +1,4 @@
--- `text::read::lay_pairs` meets its contract: the bytes of the pairs left, stored after those stored, are the bytes of all. Assumes nothing.
+-- `text::read::lay_pairs` meets its contract: the bytes of the pairs left, stored after those stored, are the bytes of all.
 use mathlib.Core.Path.{_≡_}
 use Prim.Native.Nat.{_≤_, _-_, _*_}
 use native.Mathlib.Numerals.{add-one}

@@ -1,5 +1,5 @@
 -- `text::read::number` meets its contract: the value so far, with the digits left, spells what the whole slice spells. By `spelled-next`.
--- The value stays at most `most`, so the next one fits. Assumes nothing.
+-- The value stays at most `most`, so the next one fits.
 use mathlib.Core.Path.{_≡_, sym, _∙_}
 use Prim.Native.Nat.{_≤_, _-_}
 use native.Mathlib.Omega.{arith}

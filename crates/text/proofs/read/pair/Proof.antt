@@ -1,4 +1,4 @@
--- `text::read::pair` meets its contract: a digit's value is at most 16, so the sum is small. Assumes nothing.
+-- `text::read::pair` meets its contract: a digit's value is at most 16, so the sum is small.
 use mathlib.Core.Path.{ap, _∙_}
 use Prim.Native.Nat.{ℕ, _+_, _*_, _%_}
 use native.Mathlib.Omega.{arith}

@@ -1,4 +1,4 @@
--- `text::read::read_hex` meets its contract: the part that is lent is the field, by `part-field`; past the end it is empty. Assumes nothing.
+-- `text::read::read_hex` meets its contract: the part that is lent is the field, by `part-field`; past the end it is empty.
 use borrow.Author.Needs.{needs}
 use mathlib.Core.Path.{_≡_, refl, sym, ap, _∙_}
 use Prim.Native.Nat.{ℕ, _+_}

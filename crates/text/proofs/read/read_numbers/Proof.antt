@@ -1,4 +1,4 @@
--- `text::read::read_numbers` meets its contract: the numbers stored, and then those left to read, are all of them. Assumes nothing.
+-- `text::read::read_numbers` meets its contract: the numbers stored, and then those left to read, are all of them.
 use mathlib.Core.Path.{_≡_, refl, sym, ap, _∙_}
 use mathlib.Core.List.{List, _∷_, _++_, append-nil}
 use Prim.Native.Nat.{ℕ, _≤_, _-_, _+_}

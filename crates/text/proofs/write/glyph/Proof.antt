@@ -1,4 +1,4 @@
--- `text::write::glyph` meets its contract: its test is that of the definition. Assumes nothing.
+-- `text::write::glyph` meets its contract: its test is that of the definition.
 use borrow.Author.Needs.{needs}
 use borrow.Author.Tests.{lt-ltb, le-ltb}
 use Rattle.text.proofs.write.glyph.Statement.{statement}

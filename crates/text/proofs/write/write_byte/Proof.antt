@@ -1,4 +1,4 @@
--- `text::write::write_byte` meets its contract: a store past the end, which is left out, would change nothing. Assumes nothing.
+-- `text::write::write_byte` meets its contract: a store past the end, which is left out, would change nothing.
 use borrow.Author.Needs.{needs}
 use mathlib.Core.Path.{sym}
 use native.Mathlib.Omega.{arith}

@@ -1,4 +1,4 @@
--- `text::write::write_bytes` meets its contract: what was written so far is the text of the bytes passed. By `writes-append`. Assumes nothing.
+-- `text::write::write_bytes` meets its contract: what was written so far is the text of the bytes passed. By `writes-append`.
 use mathlib.Core.Path.{_≡_}
 use mathlib.Core.List.{[], _∷_}
 use Prim.Native.Nat.{_≤_, _-_}

@@ -1,5 +1,5 @@
 -- `text::write::write_hex` meets its contract: what was written so far are the pairs of the bytes passed. By `writes-append` and
--- `hexPairs-append`. Assumes nothing.
+-- `hexPairs-append`.
 use mathlib.Core.Path.{_≡_}
 use mathlib.Core.List.{[], _∷_}
 use Prim.Native.Nat.{_≤_, _-_}

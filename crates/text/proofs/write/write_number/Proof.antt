@@ -1,4 +1,4 @@
--- `text::write::write_number` meets its contract: the digits are those that `io::decimal` makes. Assumes nothing.
+-- `text::write::write_number` meets its contract: the digits are those that `io::decimal` makes.
 use borrow.Author.Needs.{needs}
 use Rattle.text.proofs.write.write_number.Statement.{statement}
 use Rattle.text.proofs.write.write_number.Tie as tie

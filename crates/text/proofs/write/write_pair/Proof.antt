@@ -1,4 +1,4 @@
--- `text::write::write_pair` meets its contract: one digit and then the other. By `writes-append`. Assumes nothing.
+-- `text::write::write_pair` meets its contract: one digit and then the other. By `writes-append`.
 use borrow.Author.Needs.{needs}
 use mathlib.Core.Path.{ap, _∙_}
 use Rattle.text.proofs.WriteLaws.{writes-append}

@@ -1,4 +1,4 @@
--- `text::write::write_word` meets its contract: `io::hex` makes sixteen digits, as many as there is room for. Assumes nothing.
+-- `text::write::write_word` meets its contract: `io::hex` makes sixteen digits, as many as there is room for.
 use borrow.Author.Needs.{needs}
 use mathlib.Core.Path.{_≡_}
 use native.Mathlib.Omega.{arith}

@@ -1,4 +1,4 @@
-//! The ledger: document 01's "plain book".
+//! The ledger: the witness of demand 3.
 //!
 //! It gets the profile and each frame or read with the answer, but no
 //! state or flash of the board. It shares no rule with the board: it has its
