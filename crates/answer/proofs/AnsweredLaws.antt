@@ -10,6 +10,11 @@ use Rattle.answer.specs.declared.Answer.{Answer}
 use Rattle.answer.specs.Answered.{CallEffect, callEffect, expectedEffect, Answered}
 
 -- a call that is not refused makes no promise about bytes that mean nothing
-pub answered : (s : State) (r : Answer) (d out before : List ℕ) (c : Called) → callEffect r d out ≡ expectedEffect c before → c .number ≤ 1 → Answered s r d out before c
+pub answered : (s : State) (r : Answer) (d out before : List ℕ) (c : Called) → callEffect r d out ≡ expectedEffect c before
+    → c .number ≤ 1 → Answered s r d out before c
 answered s r d out before c e small =
-    record { called = e; untouched = λ two. absurd (let n : number (r .outcome) ≡ c .number = ap (λ (x : CallEffect). x .number) e in omega arith) }
+    record {
+      called = e;
+      untouched = λ two. absurd
+          (let n : number (r .outcome) ≡ c .number = ap (λ (x : CallEffect). x .number) e in omega arith);
+    }

@@ -56,22 +56,29 @@ closed-laid bus to status results o out1 out2 room e f =
 
 -- what is left by a response of a status with results
 pub with-reply-ruled : (bus : Bus) (to status count n : ℕ) (done : Done) (s : rules.State) (d o out1 out2 : List ℕ) (a : Acted)
-    → done .response ≡ response.Reply status count → length o ≡ length out1 → buffered.commandEffect done d out1 ≡ buffered.ruledCommand a o (headerLength bus + 2)
-    → count + shortestReply bus ≤ length out1 → Closing bus to status count out1 out2 n → s ≡ withLast bus (view (done .state)) (take n out2)
+    → done .response ≡ response.Reply status count → length o ≡ length out1
+    → buffered.commandEffect done d out1 ≡ buffered.ruledCommand a o (headerLength bus + 2)
+    → count + shortestReply bus ≤ length out1 → Closing bus to status count out1 out2 n
+    → s ≡ withLast bus (view (done .state)) (take n out2)
     → _≡_ {A = CallEffect} (record { number = 0; made = n; state = s; flash = d; out = out2 }) (expectedEffect (finishedCall bus to a) o)
 with-reply-ruled bus to status count n done s d o out1 out2 a said long acted room closing kept = go (a .response) refl
   where
-    go : (r : commands.Response) → a .response ≡ r → _≡_ {A = CallEffect} (record { number = 0; made = n; state = s; flash = d; out = out2 }) (expectedEffect (finishedCall bus to a) o)
+    go : (r : commands.Response) → a .response ≡ r
+        → _≡_ {A = CallEffect} (record { number = 0; made = n; state = s; flash = d; out = out2 })
+        (expectedEffect (finishedCall bus to a) o)
     go NoReply e =
-        let same : response.Reply status count ≡ response.NoReply = sym said ∙ ap (λ (x : buffered.CommandEffect). x .response) acted ∙ ap buffered.counted e in
+        let same : response.Reply status count ≡ response.NoReply =
+        sym said ∙ ap (λ (x : buffered.CommandEffect). x .response) acted ∙ ap buffered.counted e in
         absurd (let z : _≡_ {A = ℕ} 0 1 = cc in omega arith)
     go (Reply st results) e =
-        let same : response.Reply status count ≡ response.Reply st (length results) = sym said ∙ ap (λ (x : buffered.CommandEffect). x .response) acted ∙ ap buffered.counted e in
+        let same : response.Reply status count ≡ response.Reply st (length results) =
+        sym said ∙ ap (λ (x : buffered.CommandEffect). x .response) acted ∙ ap buffered.counted e in
         let status-is : status ≡ st = cc in
         let count-is : count ≡ length results = cc in
         let whole = reply bus to st results in
         let out1-is : out1 ≡ overlay o (headerLength bus + 2) results =
-        ap (λ (x : buffered.CommandEffect). x .out) acted ∙ ap (λ (x : commands.Response). buffered.resultsIn x o (headerLength bus + 2)) e in
+        ap (λ (x : buffered.CommandEffect). x .out) acted
+        ∙ ap (λ (x : commands.Response). buffered.resultsIn x o (headerLength bus + 2)) e in
         let out2-is : out2 ≡ laid whole o =
         closed-laid bus to st results o out1 out2 (omega arith) out1-is (rw (status-is, count-is) at (closing .bytes-are)) in
         let n-is : n ≡ length whole = closing .length-is ∙ omega (arith, length-reply bus to st results) in
@@ -81,14 +88,20 @@ with-reply-ruled bus to status count n done s d o out1 out2 a said long acted ro
 
 -- and by silence
 pub no-reply-ruled : (bus : Bus) (to : ℕ) (done : Done) (s : rules.State) (d o out1 : List ℕ) (a : Acted)
-    → done .response ≡ response.NoReply → buffered.commandEffect done d out1 ≡ buffered.ruledCommand a o (headerLength bus + 2) → s ≡ withLast bus (view (done .state)) []
+    → done .response ≡ response.NoReply → buffered.commandEffect done d out1 ≡ buffered.ruledCommand a o (headerLength bus + 2)
+    → s ≡ withLast bus (view (done .state)) []
     → _≡_ {A = CallEffect} (record { number = 1; made = 0; state = s; flash = d; out = out1 }) (expectedEffect (finishedCall bus to a) o)
 no-reply-ruled bus to done s d o out1 a said acted kept = go (a .response) refl
   where
-    go : (r : commands.Response) → a .response ≡ r → _≡_ {A = CallEffect} (record { number = 1; made = 0; state = s; flash = d; out = out1 }) (expectedEffect (finishedCall bus to a) o)
+    go : (r : commands.Response) → a .response ≡ r
+        → _≡_ {A = CallEffect} (record { number = 1; made = 0; state = s; flash = d; out = out1 })
+        (expectedEffect (finishedCall bus to a) o)
     go (Reply st results) e =
-        let same : response.NoReply ≡ response.Reply st (length results) = sym said ∙ ap (λ (x : buffered.CommandEffect). x .response) acted ∙ ap buffered.counted e in
+        let same : response.NoReply ≡ response.Reply st (length results) =
+        sym said ∙ ap (λ (x : buffered.CommandEffect). x .response) acted ∙ ap buffered.counted e in
         absurd (let z : _≡_ {A = ℕ} 0 1 = cc in omega arith)
     go NoReply e =
-        let out-is : out1 ≡ o = ap (λ (x : buffered.CommandEffect). x .out) acted ∙ ap (λ (x : commands.Response). buffered.resultsIn x o (headerLength bus + 2)) e in
+        let out-is : out1 ≡ o =
+        ap (λ (x : buffered.CommandEffect). x .out) acted
+        ∙ ap (λ (x : commands.Response). buffered.resultsIn x o (headerLength bus + 2)) e in
         rw (e, kept, out-is, ap (λ (x : buffered.CommandEffect). x .state) acted, ap (λ (x : buffered.CommandEffect). x .flash) acted)

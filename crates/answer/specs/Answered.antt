@@ -1,4 +1,5 @@
--- What the two board calls promise: an equation with the rules for the answer, the state, every flash byte and every byte of the lent buffer.
+-- What the two board calls promise: an equation with the rules for the answer, the state, every flash byte and every byte of the lent
+-- buffer.
 use mathlib.Core.Path.{_≡_}
 use mathlib.Core.List.{List}
 use Prim.Native.Nat.{ℕ, _+_, _≤_}
@@ -27,7 +28,8 @@ callEffect r d out = record { number = number (r .outcome); made = made (r .outc
 
 -- what the rules say of it: the reply stands in the first bytes of the lent buffer, its rest is untouched
 abbrev pub expectedEffect : Called → List ℕ → CallEffect
-expectedEffect c out = record { number = c .number; made = length (c .reply); state = c .state; flash = c .flash; out = laid (c .reply) out }
+expectedEffect c out =
+    record { number = c .number; made = length (c .reply); state = c .state; flash = c .flash; out = laid (c .reply) out }
 
 -- a call on the state s answered r, and left the flash d and the buffer out, which was before
 pub record Answered (s : State) (r : Answer) (d out before : List ℕ) (c : Called) : Type 0 where

@@ -48,7 +48,8 @@ pub fn respond(bus: Bus, to: u8, done: Done, out: &mut [u8]) -> Answer
     requires { ⌜ Fits bus (length (now out)) (done .response) ⌝ }
     ensures { λ r.
         ⌜ ((a : Acted) (d : List ℕ) (o : List ℕ)
-        → length o ≡ length (now (out .entry)) → buffered.commandEffect done d (now (out .entry)) ≡ buffered.ruledCommand a o (headerLength bus + 2)
+        → length o ≡ length (now (out .entry)) → buffered.commandEffect done d (now (out .entry))
+        ≡ buffered.ruledCommand a o (headerLength bus + 2)
         → callEffect r d (now (out .exit)) ≡ expectedEffect (finishedCall bus to a) o) ⌝ }
 {
     let response = done.response;
@@ -71,7 +72,8 @@ pub fn respond(bus: Bus, to: u8, done: Done, out: &mut [u8]) -> Answer
 // A status with no results; the state stays.
 pub fn fault(bus: Bus, to: u8, s: State, status: u8, out: &mut [u8]) -> Answer
     requires { ⌜ 32 ≤ length (now out) ⌝ }
-    ensures { λ r. ⌜ ((d : List ℕ) → callEffect r d (now (out .exit)) ≡ expectedEffect (finishedCall bus to (commands.replying (view s) d status [])) (now (out .entry))) ⌝ }
+    ensures { λ r. ⌜ ((d : List ℕ) → callEffect r d (now (out .exit))
+        ≡ expectedEffect (finishedCall bus to (commands.replying (view s) d status [])) (now (out .entry))) ⌝ }
 {
     let done = Done {
         response: Response::Reply { status, count: 0 },

@@ -1,4 +1,5 @@
-// Document 01, "Commands": the fixed table of argument lengths, looked up by command code. Board, encoder and decoder know from here what is served.
+// Document 01, "Commands": the fixed table of argument lengths, looked up by command code. Board, encoder and decoder know from here what
+// is served.
 use widening::wide;
 ghost use mathlib.Core.Path.{_≡_};
 ghost use Prim.Native.Nat.{ℕ};

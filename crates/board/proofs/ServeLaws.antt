@@ -9,7 +9,8 @@ use lib.Seq.{take-add, drop-at, length-take-le}
 use Rattle.rules.specs.declared.kinds.Bus.{Bus}
 use Rattle.rules.specs.declared.kinds.Address.{Address}
 use Rattle.rules.specs.declared.kinds.Verdict.{Verdict}
-use Rattle.rules.specs.declared.kinds.Verdict.the-variants.{Reset, Running, ResetAddress, Short, Long, WrongSum, Foreign, OtherGeneral, BadTransfer, BadSum, Command}
+use Rattle.rules.specs.declared.kinds.Verdict.the-variants.{Reset, Running, ResetAddress, Short, Long, WrongSum, Foreign, OtherGeneral}
+use Rattle.rules.specs.declared.kinds.Verdict.the-variants.{BadTransfer, BadSum, Command}
 use Rattle.rules.specs.Profile.{Profile}
 use Rattle.rules.specs.State as rules
 use Rattle.rules.specs.Frames.{shortestRequest, shortestReply, verdict, destination, commandOf, argumentsOf}
@@ -36,7 +37,8 @@ fits-counted p n (Reply status results) small room fits = (omega arith, omega ar
 fits-counted p n NoReply small room fits = tt
 
 -- a frame whose verdict is a command is long enough to be one
-pub command-long : (bus : Bus) (M : ℕ) (running : Bool) (own : Address) (a : ℕ) (f : List ℕ) → verdict bus M running own a f ≡ Command → shortestRequest bus ≤ length f
+pub command-long : (bus : Bus) (M : ℕ) (running : Bool) (own : Address) (a : ℕ) (f : List ℕ) → verdict bus M running own a f ≡ Command
+    → shortestRequest bus ≤ length f
 command-long bus M running own a f =
     verdict-cases bus M running own a f (λ (v : Verdict). v ≡ Command → shortestRequest bus ≤ length f)
     (record {
@@ -95,8 +97,11 @@ handled-number p s a f d Command =
     replied-number (p .bus) (destination (p .bus) a f) (acted .response) (acted .state) (acted .flash)
 
 -- what an obeyed command says fits the buffer that it was served with
-pub fits-served : (p : Profile) (s : rules.State) (code : ℕ) (args d : List ℕ) (n m k : ℕ) → Unrefused p s n m → length d ≡ n → k ≡ m → (r : response.Response)
+pub fits-served : (p : Profile) (s : rules.State) (code : ℕ) (args d : List ℕ) (n m k : ℕ) → Unrefused p s n m → length d ≡ n → k ≡ m
+    → (r : response.Response)
     → r ≡ counted (executed p s code args d .response) → Fits (p .bus) k r
-fits-served p s code args d n m k sound flash buffer r e =
-    let sane = laws.executed-formed-result p (sound .profile) s (sound .state .upload) d (omega (arith, sound .flash-holds)) code args in
-    rw e (fits-counted p k (executed p s code args d .response) (sound .profile .longest-most) (omega (arith, sound .buffer-holds)) (sane .fits))
+fits-served p s code args d n m k unrefused flash buffer r e =
+    let formed-result =
+    laws.executed-formed-result p (unrefused .profile) s (unrefused .state .upload) d (omega (arith, unrefused .flash-holds)) code args in
+    rw e (fits-counted p k (executed p s code args d .response) (unrefused .profile .longest-most)
+    (omega (arith, unrefused .buffer-holds)) (formed-result .fits))

@@ -41,7 +41,8 @@ fn serve(
         ⌜ callEffect r (now (flash .exit)) (now (out .exit))
         ≡ expectedEffect
         (finishedCall (p .bus) (frames.destination (p .bus) address (now (frame .entry)))
-        (executed (profileOf p) (view s) (commandOf (p .bus) (now (frame .entry))) (argumentsOf (p .bus) (now (frame .entry))) (now (flash .entry))))
+        (executed (profileOf p) (view s) (commandOf (p .bus) (now (frame .entry))) (argumentsOf (p .bus) (now (frame .entry)))
+        (now (flash .entry))))
         (now (out .entry)) ⌝ }
 {
     let bus = p.bus;

@@ -1,5 +1,5 @@
--- From what the board's calls promise to what those of the boundary do, and what the state buffer says after a call. Why: a call that is not refused
--- leaves a well-formed state, whose numbers fit their bytes.
+-- From what the board's calls promise to what those of the boundary do, and what the state buffer says after a call. Why: a call that is
+-- not refused leaves a well-formed state, whose numbers fit their bytes.
 use mathlib.Core.Path.{_≡_, ap, _∙_}
 use mathlib.Core.List.{List}
 use Prim.Native.Nat.{ℕ, _≤_, _<_}
@@ -38,7 +38,8 @@ module _ (profile state : List ℕ) (address : ℕ) (flash out : List ℕ)
 
     -- refused: the state buffer is not written
     pub received-refused-left : 2 ≤ n
-        → _≡_ {A = ReceivedLeft} (record { number = n; made = m; state = state; flash = d; out = o }) (receivedLeft profile state address frame flash out)
+        → _≡_ {A = ReceivedLeft} (record { number = n; made = m; state = state; flash = d; out = o })
+        (receivedLeft profile state address frame flash out)
     unfolding receivedLeft
     received-refused-left h =
         let refused : 2 ≤ callOf profile state address frame flash out .number = omega (arith, number-is) in
@@ -52,7 +53,8 @@ module _ (profile state : List ℕ) (address : ℕ) (flash out : List ℕ)
 
     -- not refused: the new state is written, settled
     pub received-kept-left : {s′ : State} {b : List ℕ} → n < 2 → s′ ≡ normalized (view (r .state)) → b ≡ stateWritten s′ state
-        → _≡_ {A = ReceivedLeft} (record { number = n; made = m; state = b; flash = d; out = o }) (receivedLeft profile state address frame flash out)
+        → _≡_ {A = ReceivedLeft} (record { number = n; made = m; state = b; flash = d; out = o })
+        (receivedLeft profile state address frame flash out)
     unfolding receivedLeft
     received-kept-left h s′-is b-is =
         let kept : callOf profile state address frame flash out .number < 2 = omega (arith, number-is) in
@@ -71,7 +73,13 @@ module _ (profile state : List ℕ) (address : ℕ) (flash out : List ℕ)
   unfolding readLeft
   read-left answered =
       let called : Called = readOut (profileOf (profileAt profile)) (view (stateAt state)) address flash (length out) in
-      let call : readOut (profileOf p) (view s) a flash (length out) ≡ readOut (profileOf (profileAt profile)) (view (stateAt state)) address flash (length out) =
+      let call : readOut (profileOf p) (view s) a flash (length out)
+      ≡ readOut (profileOf (profileAt profile)) (view (stateAt state)) address flash (length out) =
       rw (p-is, s-is, a-is) (readOut-clipped (profileOf (profileAt profile)) (view (stateAt state)) address flash (length out)) in
       let seen-is : callEffect r d o ≡ expectedEffect called out = answered .called ∙ ap (λ (c : Called). expectedEffect c out) call in
-      rw (n-is ∙ ap (λ (x : CallEffect). x .number) seen-is, m-is ∙ ap (λ (x : CallEffect). x .made) seen-is, ap (λ (x : CallEffect). x .out) seen-is)
+      rw (
+        n-is ∙ ap (λ (x : CallEffect). x .number) seen-is,
+        m-is
+            ∙ ap (λ (x : CallEffect). x .made) seen-is,
+        ap (λ (x : CallEffect). x .out) seen-is,
+      )

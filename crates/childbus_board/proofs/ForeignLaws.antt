@@ -1,5 +1,5 @@
--- On I²C all addresses from 128 on are foreign alike, and RS485 does not look at the address beside a frame: so a number over 255 may stand for
--- any other.
+-- On I²C all addresses from 128 on are foreign alike, and RS485 does not look at the address beside a frame: so a number over 255 may stand
+-- for any other.
 use mathlib.Core.Path.{_≡_, refl, sym, ap, _∙_}
 use mathlib.Core.Bool.{Bool, true, false}
 use mathlib.Core.List.{List, []}
@@ -11,7 +11,8 @@ use Rattle.rules.specs.declared.kinds.Bus.{Bus}
 use Rattle.rules.specs.declared.kinds.Bus.the-variants.{I2c, Rs485}
 use Rattle.rules.specs.declared.kinds.Address.{Address}
 use Rattle.rules.specs.declared.kinds.Verdict.{Verdict}
-use Rattle.rules.specs.declared.kinds.Verdict.the-variants.{Reset, Running, ResetAddress, Short, Long, WrongSum, Foreign, OtherGeneral, BadTransfer, BadSum, Command}
+use Rattle.rules.specs.declared.kinds.Verdict.the-variants.{Reset, Running, ResetAddress, Short, Long, WrongSum, Foreign, OtherGeneral}
+use Rattle.rules.specs.declared.kinds.Verdict.the-variants.{BadTransfer, BadSum, Command}
 use Rattle.rules.specs.Profile.{Profile}
 use Rattle.rules.specs.State.{State}
 use Rattle.rules.specs.Frames.{addressed, framing, verdict}
@@ -29,19 +30,22 @@ foreign-verdict : Bool → Verdict
 foreign-verdict true = Running
 foreign-verdict false = Foreign
 
-verdict-foreign : (M : ℕ) (running : Bool) (own : Address) (a : ℕ) (f : List ℕ) → 128 ≤ a → verdict I2c M running own a f ≡ foreign-verdict running
+verdict-foreign : (M : ℕ) (running : Bool) (own : Address) (a : ℕ) (f : List ℕ) → 128 ≤ a
+    → verdict I2c M running own a f ≡ foreign-verdict running
 unfolding verdict framing foreign-verdict
 verdict-foreign M true own a f h = rw (ne-eqb a 0 (λ e. omega arith))
 verdict-foreign M false own a f h = rw (ne-eqb a 0 (λ e. omega arith), addressed-foreign own a h)
 
-handled-foreign : (p : Profile) (s : State) (a b : ℕ) (f d : List ℕ) (running : Bool) → handled p s a f d (foreign-verdict running) ≡ handled p s b f d (foreign-verdict running)
+handled-foreign : (p : Profile) (s : State) (a b : ℕ) (f d : List ℕ) (running : Bool)
+    → handled p s a f d (foreign-verdict running) ≡ handled p s b f d (foreign-verdict running)
 unfolding handled foreign-verdict
 handled-foreign p s a b f d true = refl
 handled-foreign p s a b f d false = refl
 
 -- on RS485
 
-handled-rs485 : (p : Profile) (s : State) (a b : ℕ) (f d : List ℕ) (v : Verdict) → p .bus ≡ Rs485 → handled p s a f d v ≡ handled p s b f d v
+handled-rs485 : (p : Profile) (s : State) (a b : ℕ) (f d : List ℕ) (v : Verdict) → p .bus ≡ Rs485
+    → handled p s a f d v ≡ handled p s b f d v
 unfolding handled
 handled-rs485 p s a b f d Reset e = refl
 handled-rs485 p s a b f d Running e = refl
@@ -55,7 +59,8 @@ handled-rs485 p s a b f d BadTransfer e = rw e
 handled-rs485 p s a b f d BadSum e = rw e
 handled-rs485 p s a b f d Command e = rw e
 
-verdict-rs485 : (M : ℕ) (running : Bool) (own : Address) (a b : ℕ) (f : List ℕ) → verdict Rs485 M running own a f ≡ verdict Rs485 M running own b f
+verdict-rs485 : (M : ℕ) (running : Bool) (own : Address) (a b : ℕ) (f : List ℕ)
+    → verdict Rs485 M running own a f ≡ verdict Rs485 M running own b f
 unfolding verdict framing
 verdict-rs485 M running own a b f = refl
 
@@ -66,8 +71,12 @@ module _ (p : Profile) (s : State) (a b : ℕ) (f d : List ℕ) (ha : 128 ≤ a)
       → handled p s a f d (verdict (p .bus) (p .longest) (s .running) (s .address) a f)
       ≡ handled p s b f d (verdict (p .bus) (p .longest) (s .running) (s .address) b f)
   same-verdict I2c e =
-      let at-a = ap (λ (bus : Bus). verdict bus (p .longest) (s .running) (s .address) a f) e ∙ verdict-foreign (p .longest) (s .running) (s .address) a f ha in
-      let at-b = ap (λ (bus : Bus). verdict bus (p .longest) (s .running) (s .address) b f) e ∙ verdict-foreign (p .longest) (s .running) (s .address) b f hb in
+      let at-a =
+      ap (λ (bus : Bus). verdict bus (p .longest) (s .running) (s .address) a f) e
+      ∙ verdict-foreign (p .longest) (s .running) (s .address) a f ha in
+      let at-b =
+      ap (λ (bus : Bus). verdict bus (p .longest) (s .running) (s .address) b f) e
+      ∙ verdict-foreign (p .longest) (s .running) (s .address) b f hb in
       ap (handled p s a f d) at-a ∙ handled-foreign p s a b f d (s .running) ∙ sym (ap (handled p s b f d) at-b)
   same-verdict Rs485 e =
       let at-a = ap (λ (bus : Bus). verdict bus (p .longest) (s .running) (s .address) a f) e in

@@ -38,7 +38,9 @@ module _ (p : paper.Profile) (s : rules.State) (range : inRange p ≡ true) (for
 
   pub written-says : (b : List ℕ) → stateSize ≤ length b → view (stateAt (stateWritten (normalized s) b)) ≡ s
   written-says b long =
-      let fits = state-fits p (normalized s) (length-used page (s .upload .waiting)) (length-used largestFrame (s .last)) range (rw normalized-says formed) in
+      let fits =
+      state-fits p (normalized s) (length-used page (s .upload .waiting)) (length-used largestFrame (s .last)) range
+      (rw normalized-says formed) in
       ap view (state-read (normalized s) b fits long) ∙ normalized-says
 
 -- childbus_fresh
@@ -60,7 +62,8 @@ module _ (p : paper.Profile) (s : rules.State) (a : ℕ) (f d : List ℕ) (n : �
       (λ e. refusal-unrefused p s (length d) n (eqb-true _ _ e))
       (λ e.
       let least : 2 ≤ refusal p s (length d) n = refusal-least p s (length d) n e in
-      let expectedEffect : received p s a f d n .number ≡ refusal p s (length d) n = ap (λ (c : Called). c .number) (received-refused p s d a f n (λ q. omega arith)) in
+      let expectedEffect : received p s a f d n .number ≡ refusal p s (length d) n =
+      ap (λ (c : Called). c .number) (received-refused p s d a f n (λ q. omega arith)) in
       absurd (omega arith))
 
 -- bytes that say a well-formed state are long enough for one
@@ -75,11 +78,15 @@ module _ (profile state : List ℕ) (address : ℕ) (frame flash out : List ℕ)
       → view (stateAt (receivedLeft profile state address frame flash out .state)) ≡ callOf profile state address frame flash out .state
   unfolding receivedLeft
   kept-says h =
-      let sound = kept-unrefused (profileOf (profileAt profile)) (view (stateAt state)) address frame flash (length out) h in
-      let formed = received-formed-call (profileOf (profileAt profile)) (view (stateAt state)) flash address frame (length out) (sound .well-formed) .well-formed in
-      let long = held-long (profileOf (profileAt profile)) state (sound .well-formed) in
-      rw (lt-ltb (callOf profile state address frame flash out .number) 2 h) (written-says (profileOf (profileAt profile)) _ (sound .in-range) formed state long)
+      let unrefused = kept-unrefused (profileOf (profileAt profile)) (view (stateAt state)) address frame flash (length out) h in
+      let formed =
+      received-formed-call (profileOf (profileAt profile)) (view (stateAt state)) flash address frame (length out)
+      (unrefused .well-formed) .well-formed in
+      let long = held-long (profileOf (profileAt profile)) state (unrefused .well-formed) in
+      rw (lt-ltb (callOf profile state address frame flash out .number) 2 h)
+      (written-says (profileOf (profileAt profile)) _ (unrefused .in-range) formed state long)
 
-  pub refused-says : 2 ≤ receivedLeft profile state address frame flash out .number → receivedLeft profile state address frame flash out .state ≡ state
+  pub refused-says : 2 ≤ receivedLeft profile state address frame flash out .number
+      → receivedLeft profile state address frame flash out .state ≡ state
   unfolding receivedLeft
   refused-says h = rw (le-ltb (callOf profile state address frame flash out .number) 2 h)

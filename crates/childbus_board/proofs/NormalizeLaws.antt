@@ -27,7 +27,8 @@ module _ (n m : ℕ) (w : List ℕ) (long : length w ≡ n) where
   stays-within h =
       let inner : used m w ≡ take m w = used-take m w (omega arith) in
       let most : length (take m w) ≡ m = length-take-le m w (omega arith) in
-      sym (ap (λ (l : List ℕ). take m (used n l)) inner ∙ take-take m n (take m w ++ replicate n 0) h ∙ take-at (take m w) (replicate n 0) m most)
+      sym (ap (λ (l : List ℕ). take m (used n l)) inner ∙ take-take m n (take m w ++ replicate n 0) h
+      ∙ take-at (take m w) (replicate n 0) m most)
 
   stays-past : n ≤ m → take m w ≡ take m (used n (used m w))
   unfolding used
@@ -55,7 +56,13 @@ module _ (n m : ℕ) (w : List ℕ) (long : length w ≡ n) where
   pub used-turn : (k : ℕ) (v : List ℕ) → length v ≡ n → m ≤ k → k < n → take k v ≡ take k (used n (used m w))
       → take (k + 1) (set v k 0) ≡ take (k + 1) (used n (used m w))
   used-turn k v e h below so-foreign =
-      rw (add-one, take-suc-set v k 0 (omega arith), take-suc (used n (used m w)) k 0 (rw (length-used n (used m w)) below), used-zeros k h below, so-foreign)
+      rw (
+        add-one,
+        take-suc-set v k 0 (omega arith),
+        take-suc (used n (used m w)) k 0 (rw (length-used n (used m w)) below),
+        used-zeros k h below,
+        so-foreign,
+      )
 
   -- the loop's end
   pub used-end : (k : ℕ) (v : List ℕ) → length v ≡ n → n ≤ k → take k v ≡ take k (used n (used m w)) → v ≡ used n (used m w)
@@ -77,7 +84,8 @@ normalized-last l len bytes = rw (len, bytes, length-used (l .len) (l .bytes))
 used-used : (n : ℕ) (l : List ℕ) → length l ≤ n → used (length l) (used n l) ≡ l
 unfolding used
 used-used n l h =
-    used-take (length l) (used n l) (rw (length-used n l) h) ∙ take-take (length l) n (l ++ replicate n 0) h ∙ take-at l (replicate n 0) (length l) refl
+    used-take (length l) (used n l) (rw (length-used n l) h) ∙ take-take (length l) n (l ++ replicate n 0) h
+    ∙ take-at l (replicate n 0) (length l) refl
 
 -- a settled state says what it was made of, where that fits its buffers
 pub view-normalized : (s : rules.State) → length (s .upload .waiting) ≤ page → length (s .last) ≤ largestFrame → view (normalized s) ≡ s

@@ -1,5 +1,5 @@
--- The board's calls over bytes: number, single result, and every byte of the buffers, for any bytes of any length. A buffer that holds no profile or
--- no state reads as one that the board refuses (`profileAt`, `stateAt`).
+-- The board's calls over bytes: number, single result, and every byte of the buffers, for any bytes of any length. A buffer that holds no
+-- profile or no state reads as one that the board refuses (`profileAt`, `stateAt`).
 use mathlib.Core.Bool.{cond}
 use mathlib.Core.List.{List}
 use Prim.Native.Nat.{ℕ}
@@ -36,7 +36,8 @@ pub record FreshLeft : Type 0 where
 
 -- 4 for a buffer that is too short, which stays as it was
 unfoldable pub freshLeft : List ℕ → FreshLeft
-freshLeft state = cond (leb stateSize (length state)) (record { number = 0; state = stateWritten zeroed state }) (record { number = 4; state = state })
+freshLeft state =
+    cond (leb stateSize (length state)) (record { number = 0; state = stateWritten zeroed state }) (record { number = 4; state = state })
 
 -- childbus_receive
 
@@ -57,7 +58,8 @@ receivedBy c state out =
 
 -- the call that the bytes say
 abbrev pub callOf : List ℕ → List ℕ → ℕ → List ℕ → List ℕ → List ℕ → Called
-callOf profile state address frame flash out = received (profileOf (profileAt profile)) (view (stateAt state)) address frame flash (length out)
+callOf profile state address frame flash out =
+    received (profileOf (profileAt profile)) (view (stateAt state)) address frame flash (length out)
 
 unfoldable pub receivedLeft : List ℕ → List ℕ → ℕ → List ℕ → List ℕ → List ℕ → ReceivedLeft
 receivedLeft profile state address frame flash out = receivedBy (callOf profile state address frame flash out) state out

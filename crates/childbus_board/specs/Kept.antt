@@ -12,8 +12,10 @@ pub record Kept : Type 0 where
   -- after childbus_fresh the fresh state
   pub fresh : (state : List ℕ) → stateSize ≤ length state → view (stateAt (freshLeft state .state)) ≡ rules.fresh
   -- after childbus_receive, not refused, the state of the rules
-  pub received : (profile state : List ℕ) (address : ℕ) (frame flash out : List ℕ) → receivedLeft profile state address frame flash out .number < 2
+  pub received : (profile state : List ℕ) (address : ℕ) (frame flash out : List ℕ)
+      → receivedLeft profile state address frame flash out .number < 2
       → view (stateAt (receivedLeft profile state address frame flash out .state)) ≡ callOf profile state address frame flash out .state
   -- a refused call leaves the bytes
-  pub refused : (profile state : List ℕ) (address : ℕ) (frame flash out : List ℕ) → 2 ≤ receivedLeft profile state address frame flash out .number
+  pub refused : (profile state : List ℕ) (address : ℕ) (frame flash out : List ℕ)
+      → 2 ≤ receivedLeft profile state address frame flash out .number
       → receivedLeft profile state address frame flash out .state ≡ state

@@ -1,6 +1,6 @@
-// The C boundary of a board: the fresh state, a received frame, an I²C read, as include/childbus.h declares them, over byte slices and numbers. A slice
-// is a pointer and a length to C, a `&mut` number the place of a single result. No call has a `requires`: any bytes of any length get the answer that
-// specs/ fixes.
+// The C boundary of a board: the fresh state, a received frame, an I²C read, as include/childbus.h declares them, over byte slices and
+// numbers. A slice is a pointer and a length to C, a `&mut` number the place of a single result. No call has a `requires`: any bytes of any
+// length get the answer that specs/ fixes.
 mod normalize;
 
 use crate::normalize::normalize;

@@ -13,8 +13,10 @@ use Rattle.rules.specs.declared.kinds.Bus.{Bus}
 use Rattle.rules.specs.declared.requests.Request.{Request}
 use Rattle.rules.specs.declared.requests.Encoded.{Encoded}
 use Rattle.rules.specs.declared.requests.Decoded.{Decoded}
-use Rattle.rules.specs.declared.requests.Decoded.the-variants.{Reply, NotServed, TooShort, SumWrong, OtherAddress, LengthWrong, StatusUnknown, ResultsMissing}
-use Rattle.rules.specs.Master.{encodedNumber, encodedLength, encoded, Decoding, unread, decodedAs, decoded, decodedRead, resultsIn, resultBytes, whichRead, capped, Ruled, versionRule}
+use Rattle.rules.specs.declared.requests.Decoded.the-variants.{Reply, NotServed, TooShort, SumWrong, OtherAddress, LengthWrong}
+use Rattle.rules.specs.declared.requests.Decoded.the-variants.{StatusUnknown, ResultsMissing}
+use Rattle.rules.specs.Master.{encodedNumber, encodedLength, encoded, Decoding, unread, decodedAs, decoded, decodedRead, resultsIn}
+use Rattle.rules.specs.Master.{resultBytes, whichRead, capped, Ruled, versionRule}
 use Rattle.laws.proofs.UploadLaws.{by-test}
 use Rattle.rules.proofs.requests.Decoded.{the-type}
 use Rattle.encoder.specs.Calls.{Encodes}
@@ -25,8 +27,10 @@ use Rattle.profile_bytes.specs.ProfileBytes.{busOf}
 use Rattle.childbus_master.specs.MasterBytes.{EncodedLeft, encodedLeft, decodedLeft, chosenRead}
 
 -- the encoder, on a bus that there is
-pub encoded-left : (bus longest : ℕ) (request : Request) (destination : ℕ) (bytes out : List ℕ) {b : Bus} {answer : Encoded} {after : List ℕ} {n m : ℕ}
-    → bus ≤ 1 → b ≡ busOf bus → Encodes answer (encoded b longest request destination bytes (length out)) out after → n ≡ encodedNumber answer
+pub encoded-left : (bus longest : ℕ) (request : Request) (destination : ℕ) (bytes out : List ℕ) {b : Bus} {answer : Encoded}
+    {after : List ℕ} {n m : ℕ}
+    → bus ≤ 1 → b ≡ busOf bus → Encodes answer (encoded b longest request destination bytes (length out)) out after
+    → n ≡ encodedNumber answer
     → m ≡ encodedLength answer
     → _≡_ {A = EncodedLeft} (record { number = n; made = m; out = after }) (encodedLeft bus longest request destination bytes out)
 unfolding encodedLeft
@@ -52,7 +56,8 @@ module _ (bus code address asked : ℕ) (reply : List ℕ) {b : Bus} {answer : D
   unfolding decodedLeft
   decoded-as = rw (le-ltb 1 bus least, ← b-is) (e .answer-is)
 
-  pub decoded-refusal : {n : ℕ} → OneOf refusals (tagOf the-type answer) → n ≡ decodedAs answer .number → unread n ≡ decodedLeft bus code address asked reply
+  pub decoded-refusal : {n : ℕ} → OneOf refusals (tagOf the-type answer) → n ≡ decodedAs answer .number
+      → unread n ≡ decodedLeft bus code address asked reply
   decoded-refusal h n-is = rw n-is (sym (unread-refusal answer h) ∙ decoded-as)
 
   pub decoded-reply : {status start len : ℕ} → answer ≡ Reply status start len
@@ -61,7 +66,8 @@ module _ (bus code address asked : ℕ) (reply : List ℕ) {b : Bus} {answer : D
 
 -- the results of two reads are those of the rules
 pub chosen-results : (code asked : ℕ) (first second : List ℕ)
-    → resultsIn (chosenRead code asked first second) (cond (eqb (whichRead code asked first second) 1) first second) ≡ resultBytes code asked first second
+    → resultsIn (chosenRead code asked first second) (cond (eqb (whichRead code asked first second) 1) first second)
+    ≡ resultBytes code asked first second
 unfolding chosenRead whichRead resultBytes
 chosen-results code asked first second =
     by-test (eqb (decodedRead code asked first .number) 0)
@@ -92,6 +98,7 @@ versionRule-clipped major minor =
       capped-clipped 2 minor (omega arith),
     )
 
-pub version-left : (major minor : ℕ) {a b : ℕ} {r : Ruled} → a ≡ clipped major → b ≡ clipped minor → r ≡ versionRule a b → r ≡ versionRule major minor
+pub version-left : (major minor : ℕ) {a b : ℕ} {r : Ruled} → a ≡ clipped major → b ≡ clipped minor → r ≡ versionRule a b
+    → r ≡ versionRule major minor
 version-left major minor {b = b} a-is b-is e =
     e ∙ ap (λ (x : ℕ). versionRule x b) a-is ∙ ap (versionRule (clipped major)) b-is ∙ versionRule-clipped major minor

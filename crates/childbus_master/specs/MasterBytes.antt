@@ -1,4 +1,5 @@
--- The master's calls over bytes: number, single results, and every byte of the output, for any numbers of 32 bits and any bytes of any length.
+-- The master's calls over bytes: number, single results, and every byte of the output, for any numbers of 32 bits and any bytes of any
+-- length.
 use mathlib.Core.Path.{_≡_}
 use mathlib.Core.Bool.{cond}
 use mathlib.Core.List.{List}
@@ -65,4 +66,5 @@ readsLeft code asked first second = record {
 -- these are the result bytes that the rules give, in the read that the answer names
 pub record ReadsAgree : Type 0 where
   pub results : (code asked : ℕ) (first second : List ℕ)
-      → resultsIn (chosenRead code asked first second) (cond (eqb (whichRead code asked first second) 1) first second) ≡ resultBytes code asked first second
+      → resultsIn (chosenRead code asked first second) (cond (eqb (whichRead code asked first second) 1) first second)
+      ≡ resultBytes code asked first second

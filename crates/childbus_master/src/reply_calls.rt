@@ -106,7 +106,8 @@ pub extern "C" fn childbus_version(
     known_minor: &mut u32,
 ) -> u32
     ensures { λ r.
-        ⌜ _≡_ {A = Ruled} (record { number = r; major = now («known_major» .exit); minor = now («known_minor» .exit) }) (versionRule major minor) ⌝ }
+        ⌜ _≡_ {A = Ruled} (record { number = r; major = now («known_major» .exit); minor = now («known_minor» .exit) })
+        (versionRule major minor) ⌝ }
 {
     let answer = version_rule::version(clip(major), clip(minor));
     let Version::Known {

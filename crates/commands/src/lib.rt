@@ -25,7 +25,8 @@ fn perform(
     requires { ⌜ Serving p s (length (now flash)) (length (now out)) at ⌝ }
     requires { ⌜ lengthAllowed code (length (now args)) ≡ true ⌝ }
     ensures { λ r.
-        ⌜ commandEffect r (now (flash .exit)) (now (out .exit)) ≡ ruledCommand (performed (profileOf p) (view s) code (now (args .entry)) (now (flash .entry))) (now (out .entry)) at ⌝ }
+        ⌜ commandEffect r (now (flash .exit)) (now (out .exit))
+        ≡ ruledCommand (performed (profileOf p) (view s) code (now (args .entry)) (now (flash .entry))) (now (out .entry)) at ⌝ }
 {
     match code {
         0x00 => queries::version(s, out, at),
@@ -53,7 +54,8 @@ pub fn execute(
 ) -> Done
     requires { ⌜ Serving p s (length (now flash)) (length (now out)) at ⌝ }
     ensures { λ r.
-        ⌜ commandEffect r (now (flash .exit)) (now (out .exit)) ≡ ruledCommand (executed (profileOf p) (view s) code (now (args .entry)) (now (flash .entry))) (now (out .entry)) at ⌝ }
+        ⌜ commandEffect r (now (flash .exit)) (now (out .exit))
+        ≡ ruledCommand (executed (profileOf p) (view s) code (now (args .entry)) (now (flash .entry))) (now (out .entry)) at ⌝ }
 {
     if !arguments::served(code) {
         return response::reply(s, COMMAND_NOT_SUPPORTED, &[], out, at);

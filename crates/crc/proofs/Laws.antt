@@ -36,7 +36,8 @@ module _ (frame : List ℕ) (end : ℕ) where
       sumRight-at I2c (omega arith) ∙ rw (drop-cons frame end 0 inside, drop-of-length-le frame none) (and-true _)
 
   pub sumRight-Rs485 : length frame ≡ end + 2
-      → sumRight Rs485 frame ≡ (eqb (getD frame end 0) (crc crc16 (take end frame) % 256) && eqb (getD frame (end + 1) 0) (crc crc16 (take end frame) / 256))
+      → sumRight Rs485 frame ≡ (eqb (getD frame end 0) (crc crc16 (take end frame) % 256) && eqb (getD frame (end + 1) 0)
+      (crc crc16 (take end frame) / 256))
   unfolding same sum
   sumRight-Rs485 e =
       let none : length frame ≤ suc (suc end) = omega arith in

@@ -10,7 +10,8 @@ use denote.Enum.Declared.{tagOf}
 use types.Run.{OneOf, miss}
 use Rattle.rules.proofs.requests.Decoded.{the-type}
 use Rattle.rules.specs.declared.requests.Decoded.{Decoded}
-use Rattle.rules.specs.declared.requests.Decoded.the-variants.{Reply, NotServed, TooShort, SumWrong, OtherAddress, LengthWrong, StatusUnknown, ResultsMissing}
+use Rattle.rules.specs.declared.requests.Decoded.the-variants.{Reply, NotServed, TooShort, SumWrong, OtherAddress, LengthWrong}
+use Rattle.rules.specs.declared.requests.Decoded.the-variants.{StatusUnknown, ResultsMissing}
 use Rattle.rules.specs.Master.{Decoding, decodedAs, resultsIn}
 use Rattle.decoder.specs.Calls.{Decodes}
 

@@ -1,5 +1,5 @@
--- Demand 2 of the board of the rules. Along a list the state stays well formed, flash keeps its length (`BoardLaws`), and the past tells what the state
--- keeps (`Received`); so each well-framed frame gets what its command says (`Answered`).
+-- Demand 2 of the board of the rules. Along a list the state stays well formed, flash keeps its length (`BoardLaws`), and the past tells
+-- what the state keeps (`Received`); so each well-framed frame gets what its command says (`Answered`).
 use mathlib.Core.Path.{_≡_, sym, ap, subst, _∙_}
 use mathlib.Core.Bool.{true}
 use mathlib.Core.List.{List, [], _∷_}
@@ -42,9 +42,11 @@ module _ (p : Profile) (k : Ledger) (a : ℕ) (f : List ℕ) (n : ℕ) where
     rw e (ap (λ (u : Upload). u .count) (withLast-upload (p .bus) s (reply (p .bus) (destination (p .bus) a f) status results))),
   )
 
-  module _ (s : State) (d : List ℕ) (range : inRange p ≡ true) (room : p .offset + p .size ≤ length d) (formed : wellFormed p s ≡ true) where
+  module _ (s : State) (d : List ℕ) (range : inRange p ≡ true) (room : p .offset + p .size ≤ length d)
+      (formed : wellFormed p s ≡ true) where
     commanded : p .longest ≤ n → wellFramed p (pastOf s) a f ≡ true
-        → received p s a f d n ≡ finishedCall (p .bus) (destination (p .bus) a f) (executed p s (commandOf (p .bus) f) (argumentsOf (p .bus) f) d)
+        → received p s a f d n ≡ finishedCall (p .bus) (destination (p .bus) a f)
+        (executed p s (commandOf (p .bus) f) (argumentsOf (p .bus) f) d)
     commanded long heard =
         received-handled p s d a f n (unrefused-refusal p s (length d) n range formed room long) ∙ Answered.handled-command p s a f heard d
 
@@ -62,11 +64,14 @@ module _ (p : Profile) (k : Ledger) (a : ℕ) (f : List ℕ) (n : ℕ) where
           rw (commanded long heard, is)
           (replying-answers s d (acts 0x06) invalidArguments [] (Answered.write-refused p s (argumentsOf (p .bus) f) d other));
       versions = λ long heard is none.
-          rw (commanded long heard, is) (replying-answers s d (acts 0x00) ok _ (Answered.version-replying p s (argumentsOf (p .bus) f) d none) .0);
+          rw (commanded long heard, is) (replying-answers s d (acts 0x00) ok
+          _ (Answered.version-replying p s (argumentsOf (p .bus) f) d none) .0);
       reads = λ long heard is three within.
-          rw (commanded long heard, is) (replying-answers s d (acts 0x08) ok _ (Answered.read-replying p s (argumentsOf (p .bus) f) d three within) .0);
+          rw (commanded long heard, is) (replying-answers s d (acts 0x08) ok
+          _ (Answered.read-replying p s (argumentsOf (p .bus) f) d three within) .0);
       silence = λ long bus wrong.
-          rw (received-handled p s d a f n (unrefused-refusal p s (length d) n range formed room long)) (Answered.damaged-dropped p s a f d bus wrong);
+          rw (received-handled p s d a f n (unrefused-refusal p s (length d) n range formed room long))
+          (Answered.damaged-dropped p s a f d bus wrong);
     }
 
 -- a list from any well-formed state, with the past that tells of it
@@ -78,9 +83,12 @@ module _ (p : Profile) (range : inRange p ≡ true) where
   all-right s d k (Frame a f n ∷ cs) formed room =
       let c : Called = received p s a f d n in
       let o = received-formed-call p s d a f n formed in
-      let rest = all-right (c .state) (c .flash) (fed p k (Frame a f n) (c .number) (c .reply)) cs (o .well-formed) (omega (arith, o .flash-length)) in (
+      let rest =
+      all-right (c .state) (c .flash) (fed p k (Frame a f n) (c .number) (c .reply)) cs (o .well-formed)
+      (omega (arith, o .flash-length)) in (
         frame-right p k a f n s d range room formed,
-        subst (λ (q : Past). AllRight p q (c .flash) (c .state .upload .count) (trace ruled p (c .state) (c .flash) (fed p k (Frame a f n) (c .number) (c .reply)) cs))
+        subst (λ (q : Past). AllRight p q (c .flash) (c .state .upload .count)
+            (trace ruled p (c .state) (c .flash) (fed p k (Frame a f n) (c .number) (c .reply)) cs))
             (sym (received-followed p s a f d n)) rest,
       )
   all-right s d k (Read a n ∷ cs) formed room =

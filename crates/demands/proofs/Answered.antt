@@ -11,7 +11,8 @@ use borrow.Author.Tests.{not-true, le-leb}
 use Rattle.rules.specs.declared.kinds.Bus.{Bus}
 use Rattle.rules.specs.declared.kinds.Bus.the-variants.{I2c, Rs485}
 use Rattle.rules.specs.declared.kinds.Verdict.{Verdict}
-use Rattle.rules.specs.declared.kinds.Verdict.the-variants.{Reset, Running, ResetAddress, Short, Long, WrongSum, Foreign, OtherGeneral, BadTransfer, BadSum, Command}
+use Rattle.rules.specs.declared.kinds.Verdict.the-variants.{Reset, Running, ResetAddress, Short, Long, WrongSum, Foreign, OtherGeneral}
+use Rattle.rules.specs.declared.kinds.Verdict.the-variants.{BadTransfer, BadSum, Command}
 use Rattle.rules.specs.Profile.{Profile}
 use Rattle.rules.specs.State.{State}
 use Rattle.rules.specs.CheckSums.{sumRight}
@@ -47,7 +48,8 @@ arguments-within Rs485 f h = omega (arith, length-arguments 2 2 f)
 module _ (p : Profile) (s : State) (a : ℕ) (f : List ℕ) (heard : wellFramed p (pastOf s) a f ≡ true) where
   stopped : s .running ≡ false
   unfolding wellFramed
-  stopped = not-true (s .running) (and-eq-true-iff (not (s .running)) (isCommand (framing (p .bus) (p .longest) (s .address) a f)) .0 heard .0)
+  stopped =
+      not-true (s .running) (and-eq-true-iff (not (s .running)) (isCommand (framing (p .bus) (p .longest) (s .address) a f)) .0 heard .0)
 
   framing-command : framing (p .bus) (p .longest) (s .address) a f ≡ Command
   unfolding wellFramed
@@ -56,7 +58,8 @@ module _ (p : Profile) (s : State) (a : ℕ) (f : List ℕ) (heard : wellFramed 
 
   framed : Framed (p .bus) (p .longest) (s .address) a f
   framed =
-      framing-cases (p .bus) (p .longest) (s .address) a f (λ (v : Verdict). isCommand v ≡ true → Framed (p .bus) (p .longest) (s .address) a f)
+      framing-cases (p .bus) (p .longest) (s .address) a f
+      (λ (v : Verdict). isCommand v ≡ true → Framed (p .bus) (p .longest) (s .address) a f)
       (record {
         short = λ b e. absurd (false≢true e);
         long = λ b e. absurd (false≢true e);

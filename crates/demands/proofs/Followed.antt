@@ -1,5 +1,5 @@
--- What the past tells is what the board keeps: a command to this board, told to the tracker by frame and answer, shows running, address and next of
--- the state that it leaves. By its code.
+-- What the past tells is what the board keeps: a command to this board, told to the tracker by frame and answer, shows running, address and
+-- next of the state that it leaves. By its code.
 use mathlib.Core.Path.{_≡_, refl, sym, ap, _∙_}
 use mathlib.Core.Bool.{true, false, not, _&&_, _||_, and-false, and-eq-true-iff}
 use mathlib.Core.List.{List, [], _∷_}
@@ -13,7 +13,9 @@ use Rattle.rules.specs.Profile.{Profile}
 use Rattle.rules.specs.State.{State}
 use Rattle.rules.specs.Frames.{reply, destination, commandOf, argumentsOf, numberAt, twoBytes, resetFrame, resetAddressFrame, isGeneral}
 use Rattle.rules.specs.Commit.{Progress, takenAll, finalized}
-use Rattle.rules.specs.Commands.{Acted, Reply, replying, withUpload, addressTaken, setAddress, hardwareInfo, serialNumber, started, accepted, restarted, written, finished, readable, shown, executed, tabled, lengthAllowed, ok, commandNotSupported, invalidArguments}
+use Rattle.rules.specs.Commands.{Acted, Reply, replying, withUpload, addressTaken, setAddress, hardwareInfo, serialNumber, started}
+use Rattle.rules.specs.Commands.{accepted, restarted, written, finished, readable, shown, executed, tabled, lengthAllowed, ok}
+use Rattle.rules.specs.Commands.{commandNotSupported, invalidArguments}
 use Rattle.rules.specs.Board.{Called, finishedCall}
 use Rattle.laws.proofs.UploadLaws.{by-test, next-takenAll, next-finalized}
 use Rattle.laws.proofs.CommandLaws.{next-restarted, executed-cases}
@@ -42,16 +44,19 @@ module _ (p : Profile) (s : State) (a : ℕ) (f d : List ℕ) where
   reply-followed : (left : State) (e : List ℕ) (status : ℕ) (results : List ℕ)
       → afterFrame p (pastOf s) a f 0 (reply (p .bus) (destination (p .bus) a f) status results) ≡ pastOf left
       → Followed p s a f (record { response = Reply status results; state = left; flash = e })
-  reply-followed left e status results h = h ∙ sym (pastOf-withLast (p .bus) left (reply (p .bus) (destination (p .bus) a f) status results))
+  reply-followed left e status results h =
+      h ∙ sym (pastOf-withLast (p .bus) left (reply (p .bus) (destination (p .bus) a f) status results))
 
   -- one that changes nothing, to another command than set address and write, or not OK
-  replying-followed : (status : ℕ) (results : List ℕ) → (eqb (commandOf (p .bus) f) 0x01 && eqb status 0) ≡ false → (eqb (commandOf (p .bus) f) 0x06 && eqb status 0) ≡ false
+  replying-followed : (status : ℕ) (results : List ℕ) → (eqb (commandOf (p .bus) f) 0x01 && eqb status 0) ≡ false
+      → (eqb (commandOf (p .bus) f) 0x06 && eqb status 0) ≡ false
       → Followed p s a f (replying s d status results)
   replying-followed status results no-address no-write =
       reply-followed s d status results (after-reply p (pastOf s) a f (destination (p .bus) a f) status results no-address no-write)
 
   pub refused-followed : (status : ℕ) → eqb status 0 ≡ false → Followed p s a f (replying s d status [])
-  refused-followed status e = replying-followed status [] (rw e (and-false (eqb (commandOf (p .bus) f) 0x01))) (rw e (and-false (eqb (commandOf (p .bus) f) 0x06)))
+  refused-followed status e =
+      replying-followed status [] (rw e (and-false (eqb (commandOf (p .bus) f) 0x01))) (rw e (and-false (eqb (commandOf (p .bus) f) 0x06)))
 
   ok-followed : (code : ℕ) (results : List ℕ) → commandOf (p .bus) f ≡ code → eqb code 0x01 ≡ false → eqb code 0x06 ≡ false
       → Followed p s a f (replying s d ok results)
@@ -59,12 +64,14 @@ module _ (p : Profile) (s : State) (a : ℕ) (f d : List ℕ) where
 
   serial-followed : commandOf (p .bus) f ≡ 0x04 → Followed p s a f (serialNumber p s d)
   serial-followed is =
-      by-test (eqb (length (p .serial)) 0) (λ e. rw e (refused-followed commandNotSupported refl)) (λ e. rw e (ok-followed 0x04 (p .serial) is refl refl))
+      by-test (eqb (length (p .serial)) 0) (λ e. rw e (refused-followed commandNotSupported refl))
+      (λ e. rw e (ok-followed 0x04 (p .serial) is refl refl))
 
   read-followed : commandOf (p .bus) f ≡ 0x08 → Followed p s a f (shown p s (argumentsOf (p .bus) f) d)
   unfolding shown
   read-followed is =
-      by-test (readable p (numberAt (argumentsOf (p .bus) f) 0) (getD (argumentsOf (p .bus) f) 2 0)) (λ e. rw e (ok-followed 0x08 _ is refl refl))
+      by-test (readable p (numberAt (argumentsOf (p .bus) f) 0) (getD (argumentsOf (p .bus) f) 2 0))
+      (λ e. rw e (ok-followed 0x08 _ is refl refl))
       (λ e. rw e (refused-followed invalidArguments refl))
 
   finalize-followed : commandOf (p .bus) f ≡ 0x07 → Followed p s a f (finished p s d)
@@ -72,7 +79,8 @@ module _ (p : Profile) (s : State) (a : ℕ) (f d : List ℕ) where
   finalize-followed is =
       let g : Progress = finalized p (record { upload = s .upload; flash = d }) in
       let kept : pastOf s ≡ pastOf (withUpload s (g .upload)) =
-      ap (λ (n : ℕ). record { running = s .running; address = s .address; next = n }) (sym (next-finalized p (record { upload = s .upload; flash = d }))) in
+      ap (λ (n : ℕ). record { running = s .running; address = s .address; next = n })
+      (sym (next-finalized p (record { upload = s .upload; flash = d }))) in
       reply-followed (withUpload s (g .upload)) (g .flash) ok (twoBytes (g .upload .count))
       (after-reply p (pastOf s) a f (destination (p .bus) a f) ok (twoBytes (g .upload .count)) (rw is) (rw is) ∙ kept)
 
@@ -95,14 +103,16 @@ module _ (p : Profile) (s : State) (a : ℕ) (f d : List ℕ) where
       ) in
       rw e
       (reply-followed left (takenAll p start (drop 2 args) .flash) ok []
-      (after-write p (pastOf s) a f (destination (p .bus) a f) is ∙ ap (λ (n : ℕ). record { running = s .running; address = s .address; next = n }) moved))
+      (after-write p (pastOf s) a f (destination (p .bus) a f) is
+      ∙ ap (λ (n : ℕ). record { running = s .running; address = s .address; next = n }) moved))
 
   write-followed : commandOf (p .bus) f ≡ 0x06 → lengthAllowed 0x06 (length (argumentsOf (p .bus) f)) ≡ true
       → Followed p s a f (written p s (argumentsOf (p .bus) f) d)
   unfolding written tabled
   write-followed is allowed =
       by-test (accepted (p .size) (s .upload .next) (numberAt (argumentsOf (p .bus) f) 0) (length (drop 2 (argumentsOf (p .bus) f))))
-      (accepted-followed is (allowed-least 0x06 (length (argumentsOf (p .bus) f)) allowed)) (λ e. rw e (refused-followed invalidArguments refl))
+      (accepted-followed is (allowed-least 0x06 (length (argumentsOf (p .bus) f)) allowed))
+      (λ e. rw e (refused-followed invalidArguments refl))
 
   -- while the frame is a command to this board
   module _ (heard : wellFramed p (pastOf s) a f ≡ true)
@@ -112,14 +122,17 @@ module _ (p : Profile) (s : State) (a : ℕ) (f d : List ℕ) where
     unfolding setAddress
     address-followed is =
         let args : List ℕ = argumentsOf (p .bus) f in
-        let left : State = record { address = Own (addressTaken (p .bus) (getD args 0 0)); running = s .running; upload = s .upload; last = s .last } in
+        let left : State =
+        record { address = Own (addressTaken (p .bus) (getD args 0 0)); running = s .running; upload = s .upload; last = s .last } in
         by-test (eqb (getD args 1 0) (p .hardware) || eqb (getD args 1 0) 0)
         (λ e. rw e (reply-followed left d ok [] (after-address p (pastOf s) a f (destination (p .bus) a f) is)))
         (λ e.
         rw e
-        (after-silence p (pastOf s) a f [] no-reset (rw no-address (and-false (not (s .running)))) (rw (heard, is)) ∙ sym (pastOf-withLast (p .bus) s [])))
+        (after-silence p (pastOf s) a f [] no-reset (rw no-address (and-false (not (s .running)))) (rw (heard, is))
+        ∙ sym (pastOf-withLast (p .bus) s [])))
 
-    start-followed : commandOf (p .bus) f ≡ 0x05 → lengthAllowed 0x05 (length (argumentsOf (p .bus) f)) ≡ true → Followed p s a f (started s d)
+    start-followed : commandOf (p .bus) f ≡ 0x05 → lengthAllowed 0x05 (length (argumentsOf (p .bus) f)) ≡ true
+        → Followed p s a f (started s d)
     unfolding afterFrame tabled
     start-followed is allowed =
         let none : length (argumentsOf (p .bus) f) ≡ 0 = omega (arith, allowed-most 0x05 (length (argumentsOf (p .bus) f)) allowed) in

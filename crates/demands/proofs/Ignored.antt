@@ -1,5 +1,5 @@
--- Demand 1, stray frames. A foreign or damaged frame is neither the reset nor a command to this board, and every other verdict keeps flash and
--- upload.
+-- Demand 1, stray frames. A foreign or damaged frame is neither the reset nor a command to this board, and every other verdict keeps flash
+-- and upload.
 use mathlib.Core.Path.{_≡_, refl, sym, ap, _∙_}
 use mathlib.Core.Logic.{inl, inr}
 use mathlib.Core.Bool.{Bool, true, false, not, _&&_, and-eq-true-iff, true≢false}
@@ -38,24 +38,33 @@ both false e n = true≢false (sym e)
 
 foreign-ignored : (p : Profile) (s : State) (a : ℕ) (f : List ℕ) → foreign p s a f ≡ true → Ignored p s a f
 foreign-ignored p s a f e =
-    let parts = and-eq-true-iff (not (addressed (p .bus) (s .address) (destination (p .bus) a f))) (not (eqb (destination (p .bus) a f) 0)) .0 e in
+    let parts =
+    and-eq-true-iff (not (addressed (p .bus) (s .address) (destination (p .bus) a f))) (not (eqb (destination (p .bus) a f) 0)) .0 e in
     record {
-      not-reset = λ g. both (eqb (destination (p .bus) a f) 0) (and-eq-true-iff (eqb (destination (p .bus) a f) 0) (same f (resetFrame (p .bus))) .0 g .0) (parts .1);
+      not-reset =
+          λ g. both (eqb (destination (p .bus) a f) 0)
+          (and-eq-true-iff (eqb (destination (p .bus) a f) 0) (same f (resetFrame (p .bus))) .0 g .0) (parts .1);
       not-framed = λ h. both (addressed (p .bus) (s .address) (destination (p .bus) a f)) (h .heard) (parts .0);
     }
 
 -- the RS485 reset ends in its check sum, the I²C reset is exempt
-damaged-no-reset : (bus : Bus) (a : ℕ) (f : List ℕ) → summed bus a f ≡ true → not (sumRight bus f) ≡ true → isGeneral bus a f (resetFrame bus) ≡ true → ⊥
+damaged-no-reset : (bus : Bus) (a : ℕ) (f : List ℕ) → summed bus a f ≡ true → not (sumRight bus f) ≡ true
+    → isGeneral bus a f (resetFrame bus) ≡ true → ⊥
 unfolding resetFrame
 damaged-no-reset I2c a f e wrong g = both (eqb a 0 && same f (resetFrame I2c)) g e
 damaged-no-reset Rs485 a f e wrong g =
-    let is : f ≡ resetFrame Rs485 = same-true f (resetFrame Rs485) (and-eq-true-iff (eqb (destination Rs485 a f) 0) (same f (resetFrame Rs485)) .0 g .1) in
+    let is : f ≡ resetFrame Rs485 =
+    same-true f (resetFrame Rs485) (and-eq-true-iff (eqb (destination Rs485 a f) 0) (same f (resetFrame Rs485)) .0 g .1) in
     both (sumRight Rs485 f) (ap (sumRight Rs485) is ∙ sumRight-sealed Rs485 _) wrong
 
 damaged-ignored : (p : Profile) (s : State) (a : ℕ) (f : List ℕ) → damaged p a f ≡ true → Ignored p s a f
 damaged-ignored p s a f e =
     let parts = and-eq-true-iff (summed (p .bus) a f) (not (sumRight (p .bus) f)) .0 e in
-    record { not-reset = damaged-no-reset (p .bus) a f (parts .0) (parts .1); not-framed = λ h. both (sumRight (p .bus) f) (h .sum-right) (parts .1) }
+    record {
+      not-reset = damaged-no-reset (p .bus) a f (parts .0) (parts .1);
+      not-framed =
+          λ h. both (sumRight (p .bus) f) (h .sum-right) (parts .1);
+    }
 
 -- every other verdict keeps flash and upload
 abbrev Keeps : Profile → State → ℕ → List ℕ → List ℕ → Verdict → Type 0

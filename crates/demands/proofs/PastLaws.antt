@@ -29,7 +29,8 @@ pastOf-withLast I2c s r = refl
 pastOf-withLast Rs485 s r = refl
 
 -- only number 0 answers OK
-answeredOk-other : (bus : Bus) (code : ℕ) (f : List ℕ) (number : ℕ) (r : List ℕ) → eqb number 0 ≡ false → answeredOk bus code f number r ≡ false
+answeredOk-other : (bus : Bus) (code : ℕ) (f : List ℕ) (number : ℕ) (r : List ℕ) → eqb number 0 ≡ false
+    → answeredOk bus code f number r ≡ false
 answeredOk-other bus code f number r e = rw e (and-false (eqb (getD f (offsets bus .command) 0) code))
 
 -- the tracker, by the number answered
@@ -61,7 +62,8 @@ after-answer : (p : Profile) (past : Past) (a : ℕ) (f : List ℕ) (number : �
 unfolding afterFrame
 after-answer p past a f number r e = simp (e, and-false)
 
-pub after-refusal : (p : Profile) (past : Past) (a : ℕ) (f : List ℕ) (number : ℕ) (r : List ℕ) → 2 ≤ number → afterFrame p past a f number r ≡ past
+pub after-refusal : (p : Profile) (past : Past) (a : ℕ) (f : List ℕ) (number : ℕ) (r : List ℕ) → 2 ≤ number
+    → afterFrame p past a f number r ≡ past
 after-refusal p past a f number r h =
     let not-0 : eqb number 0 ≡ false = ne-eqb number 0 (λ e. omega arith) in
     let not-1 : eqb number 1 ≡ false = ne-eqb number 1 (λ e. omega arith) in

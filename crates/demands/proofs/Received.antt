@@ -1,5 +1,5 @@
--- The past follows every received frame: a refused call answers 2 or above, which tells nothing; a frame with nothing to send tells of the two general
--- calls and of start alone; the rest is `Followed`.
+-- The past follows every received frame: a refused call answers 2 or above, which tells nothing; a frame with nothing to send tells of the
+-- two general calls and of start alone; the rest is `Followed`.
 use mathlib.Core.Path.{_≡_, refl}
 use mathlib.Core.Bool.{true, false, not, and-false}
 use mathlib.Core.List.{List, []}
@@ -24,11 +24,13 @@ use Rattle.demands.proofs.Followed.{Follows, refused-followed, executed
 
 module _ (p : Profile) (s : State) (a : ℕ) (f d : List ℕ) where
   -- nothing to send, to a frame that is no general call
-  no-reply-followed : (v : Verdict) → isGeneral (p .bus) a f (resetFrame (p .bus)) ≡ false → isGeneral (p .bus) a f (resetAddressFrame (p .bus)) ≡ false
+  no-reply-followed : (v : Verdict) → isGeneral (p .bus) a f (resetFrame (p .bus)) ≡ false
+      → isGeneral (p .bus) a f (resetAddressFrame (p .bus)) ≡ false
       → isCommand v ≡ false → framing (p .bus) (p .longest) (s .address) a f ≡ v → Follows p s a f (nothing s d)
   unfolding wellFramed
   no-reply-followed v no-reset no-address none is =
-      after-silence p (pastOf s) a f [] no-reset (rw no-address (and-false (not (s .running)))) (rw (is, none, and-false (not (s .running))))
+      after-silence p (pastOf s) a f [] no-reset (rw no-address (and-false (not (s .running))))
+      (rw (is, none, and-false (not (s .running))))
 
   running-followed : isGeneral (p .bus) a f (resetFrame (p .bus)) ≡ false → s .running ≡ true → Follows p s a f (nothing s d)
   unfolding wellFramed

@@ -1,4 +1,5 @@
--- Demand 1, refused calls. A call that passes the tests 2 to 5 answers 0 or 1, so a number of 2 or above is a refusal, which hands all back.
+-- Demand 1, refused calls. A call that passes the tests 2 to 5 answers 0 or 1, so a number of 2 or above is a refusal, which hands all
+-- back.
 use mathlib.Core.Path.{_≡_, ap}
 use mathlib.Core.List.{List}
 use Prim.Native.Nat.{ℕ, _≤_}
@@ -8,7 +9,8 @@ use lib.ListN.{length}
 use borrow.Author.Tests.{eqb-true, eqb-false}
 use Rattle.rules.specs.declared.kinds.Bus.{Bus}
 use Rattle.rules.specs.declared.kinds.Verdict.{Verdict}
-use Rattle.rules.specs.declared.kinds.Verdict.the-variants.{Reset, Running, ResetAddress, Short, Long, WrongSum, Foreign, OtherGeneral, BadTransfer, BadSum, Command}
+use Rattle.rules.specs.declared.kinds.Verdict.the-variants.{Reset, Running, ResetAddress, Short, Long, WrongSum, Foreign, OtherGeneral}
+use Rattle.rules.specs.declared.kinds.Verdict.the-variants.{BadTransfer, BadSum, Command}
 use Rattle.rules.specs.Profile.{Profile}
 use Rattle.rules.specs.State.{State}
 use Rattle.rules.specs.Numbers.{refusal}
@@ -57,7 +59,8 @@ unfolding readOut
 readOut-untouched p s a d n h =
     by-test (eqb (refusal p s (length d) n) 0)
     (λ e.
-    by-test (readAnswered (p .bus) s a) (λ r. let z = rw (e, r) at h in absurd (omega arith)) (λ r. let z = rw (e, r) at h in absurd (omega arith)))
+    by-test (readAnswered (p .bus) s a) (λ r. let z = rw (e, r) at h in absurd (omega arith))
+    (λ r. let z = rw (e, r) at h in absurd (omega arith)))
     (λ e. rw e)
 
 pub refused-untouched : RefusedUntouched

@@ -35,7 +35,8 @@ pub record FrameRight (p : Profile) (past : Past) (d : List ℕ) (c : ℕ) (s : 
       → Answers p s a f invalidArguments [] × (s .flash ≡ d) × (s .count ≡ c)
   -- version: results 2, 2
   pub versions :
-      p .longest ≤ n → wellFramed p past a f ≡ true → commandOf (p .bus) f ≡ 0x00 → argumentsOf (p .bus) f ≡ [] → Answers p s a f ok (2 ∷ 2 ∷ [])
+      p .longest ≤ n → wellFramed p past a f ≡ true → commandOf (p .bus) f ≡ 0x00 → argumentsOf (p .bus) f ≡ []
+      → Answers p s a f ok (2 ∷ 2 ∷ [])
   -- read shows flash
   pub reads :
       p .longest ≤ n → wellFramed p past a f ≡ true → commandOf (p .bus) f ≡ 0x08 → length (argumentsOf (p .bus) f) ≡ 3

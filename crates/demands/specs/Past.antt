@@ -8,7 +8,8 @@ use Rattle.rules.specs.declared.kinds.Bus.{Bus}
 use Rattle.rules.specs.declared.kinds.Address.{Address}
 use Rattle.rules.specs.declared.kinds.Address.the-variants.{DefaultRange, Own}
 use Rattle.rules.specs.declared.kinds.Verdict.{Verdict}
-use Rattle.rules.specs.declared.kinds.Verdict.the-variants.{Reset, Running, ResetAddress, Short, Long, WrongSum, Foreign, OtherGeneral, BadTransfer, BadSum, Command}
+use Rattle.rules.specs.declared.kinds.Verdict.the-variants.{Reset, Running, ResetAddress, Short, Long, WrongSum, Foreign, OtherGeneral}
+use Rattle.rules.specs.declared.kinds.Verdict.the-variants.{BadTransfer, BadSum, Command}
 use Rattle.rules.specs.Profile.{Profile}
 use Rattle.rules.specs.Frames.{framing, isGeneral, resetAddressFrame, resetFrame, commandOf, argumentsOf}
 use Rattle.rules.specs.Commands.{addressTaken}

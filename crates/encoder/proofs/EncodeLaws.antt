@@ -65,7 +65,8 @@ module _ (bus : Bus) (M destination code n : ℕ) (right : commandWrong bus M de
       let known = not-false (served code && lengthAllowed code n) (or-false-left (not (served code && lengthAllowed code n)) _ right) in
       omega (arith, served-lt code (and-true-left (served code) _ known))
 
-pub fitting : (bus : Bus) (M : ℕ) (r : Request) (destination n : ℕ) → M ≤ 256 → argumentWrong bus M r destination n ≡ false → Fitting r destination
+pub fitting : (bus : Bus) (M : ℕ) (r : Request) (destination n : ℕ) → M ≤ 256 → argumentWrong bus M r destination n ≡ false
+    → Fitting r destination
 unfolding argumentWrong
 fitting bus M (Plain code) destination n most e = (destination-lt bus M destination code 0 e, code-lt bus M destination code 0 e)
 fitting bus M (SetAddress address hardware) destination n most e =
@@ -91,8 +92,10 @@ fitting bus M Reset destination n most e = tt
 
 -- answers
 
-pub encodes-unmade : (answer : Encoded) (e : Encoding) (out : List ℕ) → encodedLength answer ≡ 0 → e ≡ unmade (encodedNumber answer) → Encodes answer e out out
+pub encodes-unmade : (answer : Encoded) (e : Encoding) (out : List ℕ) → encodedLength answer ≡ 0 → e ≡ unmade (encodedNumber answer)
+    → Encodes answer e out out
 encodes-unmade answer e out none is = rw is (record { number-is = refl; length-is = none; output-is = refl })
 
-pub encodes-made : (bytes before after : List ℕ) (r : ℕ) (e : Encoding) → Makes bytes before after r → e ≡ record { number = 0; bytes = bytes } → Encodes (Made r) e before after
+pub encodes-made : (bytes before after : List ℕ) (r : ℕ) (e : Encoding) → Makes bytes before after r
+    → e ≡ record { number = 0; bytes = bytes } → Encodes (Made r) e before after
 encodes-made bytes before after r e made is = rw is (record { number-is = refl; length-is = made .length-is; output-is = made .output-is })

@@ -18,7 +18,8 @@ pub fn encode(
     bytes: &[u8],
     out: &mut [u8],
 ) -> Encoded
-    ensures { λ r. ⌜ Encodes r (encoded bus longest request destination (now (bytes .entry)) (length (now (out .entry)))) (now (out .entry)) (now (out .exit)) ⌝ }
+    ensures { λ r. ⌜ Encodes r (encoded bus longest request destination (now (bytes .entry)) (length (now (out .entry))))
+        (now (out .entry)) (now (out .exit)) ⌝ }
 {
     if !profile::frame_in_range(longest) {
         return Encoded::FrameOutOfRange;

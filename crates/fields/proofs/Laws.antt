@@ -26,7 +26,8 @@ fourth n = sym (div-div-eq-div-mul (n / 256) 256 256 ∙ div-div-eq-div-mul n 25
 pub fourAt-fourBytes : (n : ℕ) → n < 2 ^ 32 → fourAt (fourBytes n) 0 ≡ n
 fourAt-fourBytes n h = rw (third n, fourth n) (omega arith)
 
-fourBytes-sum : (a b c d : ℕ) → a < 256 → b < 256 → c < 256 → d < 256 → fourBytes (a + b * 256 + c * 65536 + d * 16777216) ≡ a ∷ b ∷ c ∷ d ∷ []
+fourBytes-sum : (a b c d : ℕ) → a < 256 → b < 256 → c < 256 → d < 256
+    → fourBytes (a + b * 256 + c * 65536 + d * 16777216) ≡ a ∷ b ∷ c ∷ d ∷ []
 fourBytes-sum a b c d ha hb hc hd =
     let first : (a + b * 256 + c * 65536 + d * 16777216) % 256 ≡ a = omega arith in
     let by1 : (a + b * 256 + c * 65536 + d * 16777216) / 256 ≡ b + c * 256 + d * 65536 = omega arith in
@@ -54,7 +55,8 @@ drop-four b at room =
 -- they are those of the number that they stand for
 fourBytes-fourAt : (b : List ℕ) (at : ℕ) → Bytes b → at + 4 ≤ length b → fourBytes (fourAt b at) ≡ part b at 4
 fourBytes-fourAt b at bytes room =
-    fourBytes-sum _ _ _ _ (bytes at) (bytes (at + 1)) (bytes (at + 2)) (bytes (at + 3)) ∙ sym (ap (λ (l : List ℕ). take 4 l) (drop-four b at room))
+    fourBytes-sum _ _ _ _ (bytes at) (bytes (at + 1)) (bytes (at + 2)) (bytes (at + 3))
+    ∙ sym (ap (λ (l : List ℕ). take 4 l) (drop-four b at room))
 
 -- parts that lie one behind the other
 
@@ -72,7 +74,8 @@ part-four front b at n bytes room =
     ap (λ (l : List ℕ). front ++ part b at n ++ l) (fourBytes-fourAt b (at + n) bytes room) ∙ part-more front b at n 4
 
 -- other bytes laid over the first of a list whose n bytes behind them stay
-pub laid-part : (front b : List ℕ) (n : ℕ) → length front + n ≤ length b → laid (front ++ part b (length front) n) b ≡ front ++ drop (length front) b
+pub laid-part : (front b : List ℕ) (n : ℕ) → length front + n ≤ length b
+    → laid (front ++ part b (length front) n) b ≡ front ++ drop (length front) b
 laid-part front b n room =
     let long : length (front ++ part b (length front) n) ≡ length front + n =
     length-append front (part b (length front) n)

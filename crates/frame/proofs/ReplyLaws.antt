@@ -27,7 +27,8 @@ overlay-front : (d bytes : List ℕ) → overlay d 0 bytes ≡ bytes ++ drop (le
 unfolding overlay
 overlay-front d bytes = rw zero-add
 
-reply-head : (bus : Bus) (address status : ℕ) (results : List ℕ) → reply bus address status results ≡ sealed bus (head bus address status (length results) ++ results)
+reply-head : (bus : Bus) (address status : ℕ) (results : List ℕ)
+    → reply bus address status results ≡ sealed bus (head bus address status (length results) ++ results)
 unfolding reply
 reply-head I2c address status results = refl
 reply-head Rs485 address status results = refl
@@ -44,7 +45,14 @@ closed bus address status count out mid after room m a =
     let front : take (headerLength bus + 2 + count) mid ≡ hd ++ results =
     rw (laidout, ← long) (take-append-add hd (drop (length hd) out) count) in
     let sealedAll = sealed bus (hd ++ results) in
-    let size : length sealedAll ≡ length hd + (count + sumLength bus) = length-sealed bus (hd ++ results) ∙ rw (length-append, many) (add-assoc (length hd) count (sumLength bus)) in
+    let size : length sealedAll ≡ length hd + (count + sumLength bus) =
+    length-sealed bus (hd ++ results) ∙ rw (length-append, many) (add-assoc (length hd) count (sumLength bus)) in
     let behind : drop (length sealedAll) mid ≡ drop (length sealedAll) out =
-    rw (size, laidout, drop-append-add hd (drop (headerLength bus + 2) out) (count + sumLength bus), drop-drop (count + sumLength bus) (headerLength bus + 2) out, ← long) in
+    rw (
+      size,
+      laidout,
+      drop-append-add hd (drop (headerLength bus + 2) out) (count + sumLength bus),
+      drop-drop (count + sumLength bus) (headerLength bus + 2) out,
+      ← long,
+    ) in
     a ∙ rw (front, behind, reply-head, many)

@@ -14,11 +14,13 @@ use Rattle.laws.proofs.CheckSumLaws.{length-sum}
 use Rattle.frame.specs.Seal.{Sealing}
 
 -- for both buses: the check sum set behind the first n bytes
-pub sets-sum : (bus : Bus) (n : ℕ) (l : List ℕ) → n + sumLength bus ≤ length l → sets l n (sum bus (take n l)) ≡ laid (sealed bus (take n l)) l
+pub sets-sum : (bus : Bus) (n : ℕ) (l : List ℕ) → n + sumLength bus ≤ length l
+    → sets l n (sum bus (take n l)) ≡ laid (sealed bus (take n l)) l
 unfolding sealed
 sets-sum bus n l h =
     let fits : n + length (sum bus (take n l)) ≤ length l = omega (arith, length-sum bus (take n l)) in
-    let long : length (take n l ++ sum bus (take n l)) ≡ n + length (sum bus (take n l)) = simp (length-append, length-take) (omega arith) in
+    let long : length (take n l ++ sum bus (take n l)) ≡ n + length (sum bus (take n l)) =
+    simp (length-append, length-take) (omega arith) in
     rw long (sets-eq (sum bus (take n l)) l n fits)
 
 module _ (n v : ℕ) (l : List ℕ) where

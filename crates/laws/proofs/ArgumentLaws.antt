@@ -16,4 +16,5 @@ tabled-past code column h = ap (λ (row : List ℕ). getD row column 0) (List·g
 
 pub served-lt : (code : ℕ) → served code ≡ true → code < 15
 served-lt code e =
-    by-test (ltb code 15) (λ h. ltb-true code 15 h) (λ h. omega (arith, tabled-past code 0 (ltb-false code 15 h), eqb-true (tabled code 0) 1 e))
+    by-test (ltb code 15) (λ h. ltb-true code 15 h)
+    (λ h. omega (arith, tabled-past code 0 (ltb-false code 15 h), eqb-true (tabled code 0) 1 e))

@@ -1,5 +1,5 @@
--- Laws of the board calls: a well-formed state stays well formed, flash keeps its length, and a reply has at most M bytes. Why: a command keeps
--- its upload well formed (`CommandLaws`), and its reply is the last reply.
+-- Laws of the board calls: a well-formed state stays well formed, flash keeps its length, and a reply has at most M bytes. Why: a command
+-- keeps its upload well formed (`CommandLaws`), and its reply is the last reply.
 use mathlib.Core.Path.{_≡_, refl, sym}
 use mathlib.Core.Bool.{Bool, true, false, cond, not, false≢true}
 use mathlib.Core.List.{List, []}
@@ -11,14 +11,16 @@ use borrow.Author.Tests.{eqb-true, eq-eqb, ne-eqb}
 use Rattle.rules.specs.declared.kinds.Bus.{Bus}
 use Rattle.rules.specs.declared.kinds.Bus.the-variants.{I2c, Rs485}
 use Rattle.rules.specs.declared.kinds.Verdict.{Verdict}
-use Rattle.rules.specs.declared.kinds.Verdict.the-variants.{Reset, Running, ResetAddress, Short, Long, WrongSum, Foreign, OtherGeneral, BadTransfer, BadSum, Command}
+use Rattle.rules.specs.declared.kinds.Verdict.the-variants.{Reset, Running, ResetAddress, Short, Long, WrongSum, Foreign, OtherGeneral}
+use Rattle.rules.specs.declared.kinds.Verdict.the-variants.{BadTransfer, BadSum, Command}
 use Rattle.rules.specs.Profile.{Profile, inRange}
 use Rattle.rules.specs.State.{State, fresh, wellFormed}
 use Rattle.rules.specs.Numbers.{refusal, flashShort, bufferShort}
 use Rattle.rules.specs.Frames.{reply, destination, verdict, commandOf, argumentsOf}
 use Rattle.rules.specs.Commands.{Response, Reply, NoReply, Acted, invalidTransfer, invalidCrc}
 use Rattle.rules.specs.Board.{Called, withLast, replied, finishedCall, addressReset, handled, refused, received, readAnswered, readOut}
-use Rattle.laws.proofs.StateLaws.{UploadFacts, ReplyFacts, Unrefused, facts-wellFormed, wellFormed-facts, fresh-wellFormed, refusal-unrefused}
+use Rattle.laws.proofs.StateLaws.{UploadFacts, ReplyFacts, Unrefused, facts-wellFormed, wellFormed-facts, fresh-wellFormed}
+use Rattle.laws.proofs.StateLaws.{refusal-unrefused}
 use Rattle.laws.proofs.UploadLaws.{by-test}
 use Rattle.laws.proofs.CommandLaws.{Fits, FormedResult, length-reply, replying-formed-result, executed-formed-result}
 
@@ -46,7 +48,8 @@ withLast-formed p s r formed h =
     facts-wellFormed p (withLast (p .bus) s r)
     (record { upload = rw (withLast-upload (p .bus) s r) formed; reply = withLast-reply (p .bus) (p .longest) s r h })
 
-replied-formed-call : (p : Profile) (d : List ℕ) (a : ℕ) (r : Response) (s : State) (e : List ℕ) → UploadFacts (p .page) (p .size) (s .upload)
+replied-formed-call : (p : Profile) (d : List ℕ) (a : ℕ) (r : Response) (s : State) (e : List ℕ)
+    → UploadFacts (p .page) (p .size) (s .upload)
     → length e ≡ length d → Fits p r → FormedCall p d (replied (p .bus) a r s e)
 replied-formed-call p d a (Reply status results) s e formed same fits =
     let most : length (reply (p .bus) a status results) ≤ p .longest = omega (arith, length-reply (p .bus) a status results) in
@@ -54,8 +57,11 @@ replied-formed-call p d a (Reply status results) s e formed same fits =
 replied-formed-call p d a NoReply s e formed same fits =
     record { well-formed = withLast-formed p s [] formed (omega arith); flash-length = same; reply-most = omega arith }
 
-finishedCall-formed-call : (p : Profile) (d : List ℕ) (a : ℕ) (act : Acted) → FormedResult p d act → FormedCall p d (finishedCall (p .bus) a act)
-finishedCall-formed-call p d a act sane = replied-formed-call p d a (act .response) (act .state) (act .flash) (sane .formed) (sane .flash-length) (sane .fits)
+finishedCall-formed-call : (p : Profile) (d : List ℕ) (a : ℕ) (act : Acted) → FormedResult p d act
+    → FormedCall p d (finishedCall (p .bus) a act)
+finishedCall-formed-call p d a act formed-result =
+    replied-formed-call p d a (act .response) (act .state) (act .flash) (formed-result .formed) (formed-result .flash-length)
+    (formed-result .fits)
 
 addressReset-formed : (p : Profile) (s : State) → UploadFacts (p .page) (p .size) (s .upload) → wellFormed p (addressReset s) ≡ true
 addressReset-formed p s formed =
@@ -64,21 +70,26 @@ addressReset-formed p s formed =
 module _ (p : Profile) (s : State) (d : List ℕ) where
   handled-formed-call : (n a : ℕ) (f : List ℕ) (v : Verdict) → Unrefused p s (length d) n → FormedCall p d (handled p s a f d v)
   unfolding handled
-  handled-formed-call n a f Reset sound = nothing-formed p 1 fresh d (fresh-wellFormed p)
-  handled-formed-call n a f Running sound = nothing-formed p 1 s d (sound .well-formed)
-  handled-formed-call n a f ResetAddress sound = nothing-formed p 1 (addressReset s) d (addressReset-formed p s (sound .state .upload))
-  handled-formed-call n a f Short sound = nothing-formed p 1 s d (sound .well-formed)
-  handled-formed-call n a f Long sound = nothing-formed p 1 s d (sound .well-formed)
-  handled-formed-call n a f WrongSum sound = nothing-formed p 1 s d (sound .well-formed)
-  handled-formed-call n a f Foreign sound = nothing-formed p 1 s d (sound .well-formed)
-  handled-formed-call n a f OtherGeneral sound = nothing-formed p 1 s d (sound .well-formed)
-  handled-formed-call n a f BadTransfer sound =
-      finishedCall-formed-call p d (destination (p .bus) a f) _ (replying-formed-result p (sound .profile) s (sound .state .upload) d (sound .flash-holds) invalidTransfer [] (omega arith))
-  handled-formed-call n a f BadSum sound =
-      finishedCall-formed-call p d (destination (p .bus) a f) _ (replying-formed-result p (sound .profile) s (sound .state .upload) d (sound .flash-holds) invalidCrc [] (omega arith))
-  handled-formed-call n a f Command sound =
+  handled-formed-call n a f Reset unrefused = nothing-formed p 1 fresh d (fresh-wellFormed p)
+  handled-formed-call n a f Running unrefused = nothing-formed p 1 s d (unrefused .well-formed)
+  handled-formed-call n a f ResetAddress unrefused =
+      nothing-formed p 1 (addressReset s) d (addressReset-formed p s (unrefused .state .upload))
+  handled-formed-call n a f Short unrefused = nothing-formed p 1 s d (unrefused .well-formed)
+  handled-formed-call n a f Long unrefused = nothing-formed p 1 s d (unrefused .well-formed)
+  handled-formed-call n a f WrongSum unrefused = nothing-formed p 1 s d (unrefused .well-formed)
+  handled-formed-call n a f Foreign unrefused = nothing-formed p 1 s d (unrefused .well-formed)
+  handled-formed-call n a f OtherGeneral unrefused = nothing-formed p 1 s d (unrefused .well-formed)
+  handled-formed-call n a f BadTransfer unrefused =
+      finishedCall-formed-call p d (destination (p .bus) a f)
+      _ (replying-formed-result p (unrefused .profile) s (unrefused .state .upload) d (unrefused .flash-holds) invalidTransfer []
+      (omega arith))
+  handled-formed-call n a f BadSum unrefused =
+      finishedCall-formed-call p d (destination (p .bus) a f)
+      _ (replying-formed-result p (unrefused .profile) s (unrefused .state .upload) d (unrefused .flash-holds) invalidCrc [] (omega arith))
+  handled-formed-call n a f Command unrefused =
       finishedCall-formed-call p d (destination (p .bus) a f) _
-      (executed-formed-result p (sound .profile) s (sound .state .upload) d (sound .flash-holds) (commandOf (p .bus) f) (argumentsOf (p .bus) f))
+      (executed-formed-result p (unrefused .profile) s (unrefused .state .upload) d (unrefused .flash-holds) (commandOf (p .bus) f)
+      (argumentsOf (p .bus) f))
 
   pub received-formed-call : (a : ℕ) (f : List ℕ) (n : ℕ) → wellFormed p s ≡ true → FormedCall p d (received p s a f d n)
   unfolding received
@@ -103,7 +114,8 @@ module _ (p : Profile) (s : State) (d : List ℕ) where
   received-handled a f n e = rw (eq-eqb _ _ e)
 
   -- else it is refused
-  pub received-refused : (a : ℕ) (f : List ℕ) (n : ℕ) → (refusal p s (length d) n ≡ 0 → ⊥) → received p s a f d n ≡ refused (refusal p s (length d) n) s d
+  pub received-refused : (a : ℕ) (f : List ℕ) (n : ℕ) → (refusal p s (length d) n ≡ 0 → ⊥)
+      → received p s a f d n ≡ refused (refusal p s (length d) n) s d
   unfolding received
   received-refused a f n ne = rw (ne-eqb _ _ ne)
 

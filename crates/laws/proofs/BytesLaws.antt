@@ -38,7 +38,8 @@ unfolding same
 same-here l m i hl hm ne = rw (drop-cons l i 0, drop-cons m i 0, ne-eqb _ _ ne)
 
 -- past a place where they do not
-pub same-next : (l m : List ℕ) (i : ℕ) → i < length l → i < length m → getD l i 0 ≡ getD m i 0 → same (drop i l) (drop i m) ≡ same (drop (i + 1) l) (drop (i + 1) m)
+pub same-next : (l m : List ℕ) (i : ℕ) → i < length l → i < length m → getD l i 0 ≡ getD m i 0
+    → same (drop i l) (drop i m) ≡ same (drop (i + 1) l) (drop (i + 1) m)
 unfolding same
 same-next l m i hl hm e = rw (add-one, drop-cons l i 0, drop-cons m i 0, eq-eqb _ _ e)
 
@@ -127,7 +128,8 @@ pub overlay-within : (d : List ℕ) (at n k : ℕ) (bytes : List ℕ) → at + n
 unfolding overlay
 overlay-within d at n k bytes room fits =
     let inner : length (overlay (take n (drop at d)) k bytes) ≡ n =
-    length-overlay (take n (drop at d)) k bytes (simp (length-take, length-drop) (omega arith)) ∙ length-take-le n (drop at d) (simp length-drop (omega arith)) in
+    length-overlay (take n (drop at d)) k bytes (simp (length-take, length-drop) (omega arith))
+    ∙ length-take-le n (drop at d) (simp length-drop (omega arith)) in
     let behind : drop (k + length bytes) (take n (drop at d)) ++ drop (at + n) d ≡ drop (at + k + length bytes) d =
     rw (
       ← drop-drop n at d,

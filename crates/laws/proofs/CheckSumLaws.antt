@@ -16,7 +16,8 @@ use lib.Pow.{pow-pos}
 use lib.Seq.{drop-cons, take-at, drop-at}
 use Rattle.rules.specs.declared.kinds.Bus.{Bus}
 use Rattle.rules.specs.declared.kinds.Bus.the-variants.{I2c, Rs485}
-use Rattle.rules.specs.CheckSums.{Algorithm, mostFirst, leastFirst, times, bit, byte, run, crc, crc8, crc16, sum, sumLength, sealed, unsealed, sumRight}
+use Rattle.rules.specs.CheckSums.{Algorithm, mostFirst, leastFirst, times, bit, byte, run, crc, crc8, crc16, sum, sumLength, sealed}
+use Rattle.rules.specs.CheckSums.{unsealed, sumRight}
 use Rattle.laws.proofs.BytesLaws.{same-self}
 
 -- ---- a register over bytes
@@ -73,7 +74,14 @@ xor-assoc a =
     bin-ind (λ (n : ℕ). (b c : ℕ) → bitXor (bitXor n b) c ≡ bitXor n (bitXor b c)) (λ b c. refl)
     (λ n ih b c.
     xor-step (bitXor n b) c
-    ∙ rw (xor-half n b, xor-odd n b, ih (b / 2) (c / 2), differ-assoc (n % 2) (b % 2) (c % 2) (odd n) (odd b) (odd c), ← xor-half b c, ← xor-odd b c)
+    ∙ rw (
+      xor-half n b,
+      xor-odd n b,
+      ih (b / 2) (c / 2),
+      differ-assoc (n % 2) (b % 2) (c % 2) (odd n) (odd b) (odd c),
+      ← xor-half b c,
+      ← xor-odd b c,
+    )
     (sym (xor-step n (bitXor b c))))
     a
 
@@ -123,7 +131,8 @@ cond-xor false false x y poly = refl
 cond-xor false true x y poly = xor-assoc x y poly
 cond-xor true false x y poly = xor-assoc x y poly ∙ ap (bitXor x) (xor-comm y poly) ∙ sym (xor-assoc x poly y)
 cond-xor true true x y poly =
-    sym (xor-assoc x poly (bitXor y poly) ∙ ap (bitXor x) (ap (bitXor poly) (xor-comm y poly) ∙ sym (xor-assoc poly poly y) ∙ rw (xor-self poly)))
+    sym (xor-assoc x poly (bitXor y poly) ∙ ap (bitXor x)
+    (ap (bitXor poly) (xor-comm y poly) ∙ sym (xor-assoc poly poly y) ∙ rw (xor-self poly)))
 
 pub bit-linear : (k : Algorithm) → Linear k → (a b : ℕ) → bit k (bitXor a b) ≡ bitXor (bit k a) (bit k b)
 unfolding bit

@@ -1,5 +1,5 @@
--- Laws of the commands: whatever a command does, the upload stays well formed, flash keeps its length, and what it says fits a frame of M bytes.
--- Why: M is at least 32; the serial has at most 16 bytes, read asks for no more than fits, the other results have at most five.
+-- Laws of the commands: whatever a command does, the upload stays well formed, flash keeps its length, and what it says fits a frame of M
+-- bytes. Why: M is at least 32; the serial has at most 16 bytes, read asks for no more than fits, the other results have at most five.
 use mathlib.Core.Path.{_≡_, refl, sym}
 use mathlib.Core.Bool.{true, _||_, and-eq-true-iff}
 use mathlib.Core.List.{List, [], _∷_}
@@ -13,7 +13,9 @@ use Rattle.rules.specs.declared.kinds.Bus.the-variants.{I2c, Rs485}
 use Rattle.rules.specs.Profile.{Profile}
 use Rattle.rules.specs.State.{State, Upload}
 use Rattle.rules.specs.Frames.{reply, shortestReply, twoBytes, numberAt}
-use Rattle.rules.specs.Commands.{Response, Reply, NoReply, Acted, replying, setAddress, hardwareInfo, serialNumber, started, accepted, restarted, written, finished, readable, shown, performed, executed, tabled, lengthAllowed, ok, commandNotSupported, invalidArguments}
+use Rattle.rules.specs.Commands.{Response, Reply, NoReply, Acted, replying, setAddress, hardwareInfo, serialNumber, started, accepted}
+use Rattle.rules.specs.Commands.{restarted, written, finished, readable, shown, performed, executed, tabled, lengthAllowed, ok}
+use Rattle.rules.specs.Commands.{commandNotSupported, invalidArguments}
 use Rattle.laws.proofs.StateLaws.{ProfileFacts, UploadFacts}
 use Rattle.laws.proofs.CheckSumLaws.{length-sealed}
 use Rattle.laws.proofs.UploadLaws.{by-test, takenAll-kept, finalized-kept}
@@ -53,7 +55,8 @@ pub record Commands (p : Profile) (s : State) (code : ℕ) (args d : List ℕ) (
   pub revision : code ≡ 0x09 → lengthAllowed 0x09 (length args) ≡ true → P (replying s d ok (p .actual ∷ []))
   pub longest : code ≡ 0x0c → lengthAllowed 0x0c (length args) ≡ true → P (replying s d ok (twoBytes (p .longest)))
 
-pub executed-cases : (p : Profile) (s : State) (code : ℕ) (args d : List ℕ) (P : Acted → Type 0) → Commands p s code args d P → P (executed p s code args d)
+pub executed-cases : (p : Profile) (s : State) (code : ℕ) (args d : List ℕ) (P : Acted → Type 0) → Commands p s code args d P
+    → P (executed p s code args d)
 unfolding executed performed tabled
 executed-cases p s zero args d P c =
     by-test (lengthAllowed 0x00 (length args)) (λ h. rw h (c .version refl h)) (λ e. rw e (c .wrong-length))
@@ -90,12 +93,15 @@ next-restarted S n address u e =
 
 restarted-formed : (page S address : ℕ) (u : Upload) → UploadFacts page S u → UploadFacts page S (restarted address u)
 restarted-formed page S address u formed =
-    by-test (eqb address 0) (λ z. rw z (record { next-most = omega arith; waiting-most = omega arith; count-most = omega arith })) (λ z. rw z formed)
+    by-test (eqb address 0) (λ z. rw z (record { next-most = omega arith; waiting-most = omega arith; count-most = omega arith }))
+    (λ z. rw z formed)
 
-module _ (p : Profile) (facts : ProfileFacts p) (s : State) (formed : UploadFacts (p .page) (p .size) (s .upload)) (d : List ℕ) (room : p .offset + p .size ≤ length d) where
+module _ (p : Profile) (facts : ProfileFacts p) (s : State) (formed : UploadFacts (p .page) (p .size) (s .upload)) (d : List ℕ)
+    (room : p .offset + p .size ≤ length d) where
   -- 27 results fit any frame
   pub replying-formed-result : (status : ℕ) (results : List ℕ) → length results ≤ 27 → FormedResult p d (replying s d status results)
-  replying-formed-result status results h = record { formed = formed; flash-length = refl; fits = omega (arith, shortestReply-le (p .bus), facts .longest-least) }
+  replying-formed-result status results h =
+      record { formed = formed; flash-length = refl; fits = omega (arith, shortestReply-le (p .bus), facts .longest-least) }
 
   setAddress-formed-result : (args : List ℕ) → FormedResult p d (setAddress p s args d)
   unfolding setAddress
@@ -127,13 +133,21 @@ module _ (p : Profile) (facts : ProfileFacts p) (s : State) (formed : UploadFact
   shown-formed-result args =
       by-test (readable p (numberAt args 0) (getD args 2 0))
       (λ e.
-      let within = and-eq-true-iff (leb (numberAt args 0 + getD args 2 0) (p .size)) (leb (getD args 2 0) (p .longest - shortestReply (p .bus))) .0 e .1 in
+      let within =
+      and-eq-true-iff (leb (numberAt args 0 + getD args 2 0) (p .size)) (leb (getD args 2 0) (p .longest - shortestReply (p .bus))) .0 e
+      .1 in
       let held : length (take (getD args 2 0) (drop (p .offset + numberAt args 0) d)) ≤ getD args 2 0 = simp length-take (omega arith) in
       rw e
       (record {
         formed = formed;
         flash-length = refl;
-        fits = omega (arith, leb-true (getD args 2 0) (p .longest - shortestReply (p .bus)) within, shortestReply-le (p .bus), facts .longest-least);
+        fits =
+            omega (
+              arith,
+              leb-true (getD args 2 0) (p .longest - shortestReply (p .bus)) within,
+              shortestReply-le (p .bus),
+              facts .longest-least,
+            );
       }))
       (λ e. rw e (replying-formed-result invalidArguments [] (omega arith)))
 
@@ -142,12 +156,23 @@ module _ (p : Profile) (facts : ProfileFacts p) (s : State) (formed : UploadFact
   written-formed-result args =
       by-test (accepted (p .size) (s .upload .next) (numberAt args 0) (length (drop 2 args)))
       (λ e.
-      let end = and-eq-true-iff (eqb (numberAt args 0) 0 || eqb (numberAt args 0) (s .upload .next)) (leb (numberAt args 0 + length (drop 2 args)) (p .size)) .0 e .1 in
+      let end =
+      and-eq-true-iff (eqb (numberAt args 0) 0 || eqb (numberAt args 0) (s .upload .next))
+      (leb (numberAt args 0 + length (drop 2 args)) (p .size)) .0 e .1 in
       let k =
       takenAll-kept p facts (record { upload = restarted (numberAt args 0) (s .upload); flash = d }) (drop 2 args) room
       (restarted-formed (p .page) (p .size) (numberAt args 0) (s .upload) formed)
-      (omega (arith, next-restarted (p .size) (length (drop 2 args)) (numberAt args 0) (s .upload) e, leb-true (numberAt args 0 + length (drop 2 args)) (p .size) end)) in
-      rw e (record { formed = k .formed; flash-length = k .flash-length; fits = omega (arith, shortestReply-le (p .bus), facts .longest-least) }))
+      (omega (
+        arith,
+        next-restarted (p .size) (length (drop 2 args)) (numberAt args 0) (s .upload) e,
+        leb-true (numberAt args 0 + length (drop 2 args)) (p .size) end,
+      )) in
+      rw e (record {
+        formed = k .formed;
+        flash-length = k .flash-length;
+        fits =
+            omega (arith, shortestReply-le (p .bus), facts .longest-least);
+      }))
       (λ e. rw e (replying-formed-result invalidArguments [] (omega arith)))
 
   pub executed-formed-result : (code : ℕ) (args : List ℕ) → FormedResult p d (executed p s code args d)

@@ -4,7 +4,8 @@ use mathlib.Core.Bool.{Bool, true, false, cond, not}
 use mathlib.Core.List.{List, [], _∷_, _++_, append-assoc, append-nil}
 use Prim.Native.Nat.{ℕ, zero, suc, _+_, _-_, _*_, _/_, _%_, _<_, _≤_}
 use native.Mathlib.Omega.{arith}
-use native.Mathlib.Nat.{add-zero, add-assoc, div-add-mod', mod-lt, div-lt-iff-lt-mul, mul-le-mul-right, suc-mul, mod-add-mod, mod-eq-of-lt, mod-self, dvd-of-mod-eq-zero, div-mul-cancel}
+use native.Mathlib.Nat.{add-zero, add-assoc, div-add-mod', mod-lt, div-lt-iff-lt-mul, mul-le-mul-right, suc-mul, mod-add-mod, mod-eq-of-lt}
+use native.Mathlib.Nat.{mod-self, dvd-of-mod-eq-zero, div-mul-cancel}
 use native.Mathlib.Numerals.{add-one}
 use lib.Dec.{eqb}
 use lib.ListN.{length, take, drop, length-append, length-take, length-drop, take-append-drop}
@@ -21,7 +22,11 @@ pub take-drop-take : (w k n : ℕ) (l : List ℕ) → n ≤ length l → k + w �
 take-drop-take w k n l h fits =
     let parts : n ≡ k + (n - k) = omega arith in
     let whole : take n l ≡ take k l ++ take (n - k) (drop k l) = ap (λ (m : ℕ). take m l) parts ∙ take-add k (n - k) l in
-    rw (whole, drop-at (take k l) (take (n - k) (drop k l)) k (length-take-le k l (omega arith)), take-take w (n - k) (drop k l) (omega arith))
+    rw (
+      whole,
+      drop-at (take k l) (take (n - k) (drop k l)) k (length-take-le k l (omega arith)),
+      take-take w (n - k) (drop k l) (omega arith),
+    )
 
 -- the page of a place below the size lies within it
 pub page-within : (page size place : ℕ) → 0 < page → size % page ≡ 0 → place < size → pageStart page place + page ≤ size
@@ -59,21 +64,31 @@ raise true = 0
 raise false = 1
 
 -- a commit of nothing
-pub committed-none : (p : Profile) (g : Progress) → g .upload .waiting ≡ [] → committed p g ≡ record { upload = noneWaiting (g .upload) 0; flash = g .flash }
+pub committed-none : (p : Profile) (g : Progress) → g .upload .waiting ≡ []
+    → committed p g ≡ record { upload = noneWaiting (g .upload) 0; flash = g .flash }
 unfolding committed
 committed-none p g e = rw (e, overlay-none, same-self, add-zero)
 
 -- the two ways of a commit
-committed-ways : (p : Profile) (g : Progress) (b : Bool) → standing p g ≡ b → placed p (g .upload) + length (g .upload .waiting) ≤ length (g .flash)
+committed-ways : (p : Profile) (g : Progress) (b : Bool) → standing p g ≡ b
+    → placed p (g .upload) + length (g .upload .waiting) ≤ length (g .flash)
     → _≡_ {A = Progress}
     (cond b (record { upload = record { next = g .upload .next; waiting = []; count = g .upload .count }; flash = g .flash })
-    (record { upload = record { next = g .upload .next; waiting = []; count = suc (g .upload .count) }; flash = overlay (g .flash) (placed p (g .upload)) (g .upload .waiting) }))
+    (record {
+      upload = record { next = g .upload .next; waiting = []; count = suc (g .upload .count) };
+      flash =
+          overlay (g .flash) (placed p (g .upload)) (g .upload .waiting);
+    }))
     (record { upload = noneWaiting (g .upload) (raise b); flash = overlay (g .flash) (placed p (g .upload)) (g .upload .waiting) })
 committed-ways p g true e fits = rw (add-zero, overlay-same (g .flash) (placed p (g .upload)) (g .upload .waiting) fits e)
 committed-ways p g false e fits = rw add-one
 
 committed-some : (p : Profile) (g : Progress) → Fitting p g → 0 < length (g .upload .waiting)
-    → committed p g ≡ record { upload = noneWaiting (g .upload) (raise (standing p g)); flash = overlay (g .flash) (placed p (g .upload)) (g .upload .waiting) }
+    → committed p g ≡ record {
+      upload = noneWaiting (g .upload) (raise (standing p g));
+      flash =
+          overlay (g .flash) (placed p (g .upload)) (g .upload .waiting);
+    }
 unfolding committed
 committed-some p g f some =
     let u : Upload = g .upload in
@@ -82,7 +97,8 @@ committed-some p g f some =
     let start : ℕ = p .offset + pageStart (p .page) place in
     let k : ℕ = place % p .page in
     let old : List ℕ = take (p .page) (drop start (g .flash)) in
-    let within : pageStart (p .page) place + p .page ≤ p .size = page-within (p .page) (p .size) place (f .page-pos) (f .sized) (omega (arith, f .next-le, f .held-le)) in
+    let within : pageStart (p .page) place + p .page ≤ p .size =
+    page-within (p .page) (p .size) place (f .page-pos) (f .sized) (omega (arith, f .next-le, f .held-le)) in
     let at : start + k ≡ placed p u = omega (arith, div-add-mod' place (p .page)) in
     let long : p .page ≤ length (drop start (g .flash)) = simp length-drop (omega (arith, f .room)) in
     let room : k + length ws ≤ length old = simp length-take (omega (arith, f .in-page)) in
@@ -95,11 +111,19 @@ committed-some p g f some =
 
 -- a commit lays the waiting bytes over flash, and counts where that changes it
 pub committed-overlay : (p : Profile) (g : Progress) → Fitting p g
-    → committed p g ≡ record { upload = noneWaiting (g .upload) (raise (standing p g)); flash = overlay (g .flash) (placed p (g .upload)) (g .upload .waiting) }
+    → committed p g ≡ record {
+      upload = noneWaiting (g .upload) (raise (standing p g));
+      flash =
+          overlay (g .flash) (placed p (g .upload)) (g .upload .waiting);
+    }
 committed-overlay p g f = go (g .upload .waiting) refl
   where
     go : (ws : List ℕ) → g .upload .waiting ≡ ws
-        → committed p g ≡ record { upload = noneWaiting (g .upload) (raise (standing p g)); flash = overlay (g .flash) (placed p (g .upload)) (g .upload .waiting) }
+        → committed p g ≡ record {
+          upload = noneWaiting (g .upload) (raise (standing p g));
+          flash =
+              overlay (g .flash) (placed p (g .upload)) (g .upload .waiting);
+        }
     go [] e = committed-none p g e ∙ rw (e, overlay-none, same-self)
     go (b ∷ bs) e = committed-some p g f (rw e (omega arith))
 
@@ -112,7 +136,11 @@ takenAll-append p g (x ∷ xs) ys = takenAll-append p (taken p g x) xs ys
 
 -- bytes more, without a commit
 abbrev pub appended : Progress → List ℕ → Progress
-appended g xs = record { upload = record { next = g .upload .next + length xs; waiting = g .upload .waiting ++ xs; count = g .upload .count }; flash = g .flash }
+appended g xs =
+    record {
+      upload = record { next = g .upload .next + length xs; waiting = g .upload .waiting ++ xs; count = g .upload .count };
+      flash = g .flash;
+    }
 
 appended-nil : (g : Progress) → appended g [] ≡ g
 appended-nil g = rw (add-zero, append-nil)
@@ -141,7 +169,8 @@ unfolding taken
 taken-end p g x h = rw (eq-eqb _ _ (suc-mod-end (p .page) (g .upload .next) h))
 
 -- bytes that end no page only join the waiting ones
-pub takenAll-below : (p : Profile) (g : Progress) (xs : List ℕ) → g .upload .next % p .page + length xs < p .page → takenAll p g xs ≡ appended g xs
+pub takenAll-below : (p : Profile) (g : Progress) (xs : List ℕ) → g .upload .next % p .page + length xs < p .page
+    → takenAll p g xs ≡ appended g xs
 unfolding takenAll
 takenAll-below p g [] h = sym (appended-nil g)
 takenAll-below p g (x ∷ xs) h =
@@ -157,4 +186,5 @@ takenAll-end p g x [] h = taken-end p g x (omega arith)
 takenAll-end p g x (y ∷ ys) h =
     let one : g .upload .next % p .page + 1 < p .page = omega arith in
     rw (taken-below p g x one)
-    (takenAll-end p (appended g (x ∷ [])) y ys (omega (arith, suc-mod-below (p .page) (g .upload .next) one)) ∙ ap (committed p) (appended-cons g x (y ∷ ys)))
+    (takenAll-end p (appended g (x ∷ [])) y ys (omega (arith, suc-mod-below (p .page) (g .upload .next) one))
+    ∙ ap (committed p) (appended-cons g x (y ∷ ys)))

@@ -1,5 +1,5 @@
--- The erase count of an upload from zero: one for each page whose part of the image differs from the flash that the upload began with. Why: the pages
--- before lie in front, so a commit finds its page as it was at the beginning (`drop-overlay`). All over the page.
+-- The erase count of an upload from zero: one for each page whose part of the image differs from the flash that the upload began with. Why:
+-- the pages before lie in front, so a commit finds its page as it was at the beginning (`drop-overlay`). All over the page.
 use mathlib.Core.Path.{_≡_, refl, sym, ap, _∙_}
 use mathlib.Core.Bool.{Bool, true}
 use mathlib.Core.List.{List, [], _∷_, _++_, append-assoc, append-nil}
@@ -34,13 +34,15 @@ changes p d image zero = 0
 changes p d image (suc k) = changes p d image k + raise (stood p d image k)
 
 -- whole pages stay as they are when bytes follow
-pub changes-append : (p : Profile) (d image more : List ℕ) (k : ℕ) → k * p .page ≤ length image → changes p d (image ++ more) k ≡ changes p d image k
+pub changes-append : (p : Profile) (d image more : List ℕ) (k : ℕ) → k * p .page ≤ length image
+    → changes p d (image ++ more) k ≡ changes p d image k
 unfolding changes
 changes-append p d image more zero h = refl
 changes-append p d image more (suc k) h =
     let next = suc-mul k (p .page) in
     let same-page : pageOf (p .page) (image ++ more) k ≡ pageOf (p .page) image k =
-    rw (drop-append-le (k * p .page) image more (omega arith)) (take-append-le (p .page) (drop (k * p .page) image) more (simp length-drop (omega arith))) in
+    rw (drop-append-le (k * p .page) image more (omega arith))
+    (take-append-le (p .page) (drop (k * p .page) image) more (simp length-drop (omega arith))) in
     rw (same-page, changes-append p d image more k (omega arith))
 
 -- the pages of one byte more
@@ -54,7 +56,8 @@ module _ (page n : ℕ) (pos : 0 < page) where
   mod-end : (n + 1) % page ≡ 0 → n % page + 1 ≡ page
   mod-end e =
       by-test (eqb (n % page + 1) page) (λ h. eqb-true _ _ h)
-      (λ h. let ne = eqb-false (n % page + 1) page h in absurd (omega (arith, mod-lt n pos, suc-mod-below page n (omega (arith, mod-lt n pos)))))
+      (λ h. let ne = eqb-false (n % page + 1) page h in
+      absurd (omega (arith, mod-lt n pos, suc-mod-below page n (omega (arith, mod-lt n pos)))))
 
   div-end : (n + 1) % page ≡ 0 → (n + 1) / page ≡ suc (n / page)
   div-end e =
@@ -78,8 +81,10 @@ module _ (p : Profile) (facts : ProfileFacts p) (d : List ℕ) (room : p .offset
     -- the page that is filled now is in flash as at the beginning
     flash-ahead : drop (p .offset + pageStart (p .page) n) (before .flash) ≡ drop (p .offset + pageStart (p .page) n) d
     flash-ahead =
-        let whole : length (take (pageStart (p .page) n) image) ≡ pageStart (p .page) n = length-take-le (pageStart (p .page) n) image (omega (arith, div-add-mod' n (p .page))) in
-        rw (paged .flash-is) (rw whole at (drop-overlay d (p .offset) (take (pageStart (p .page) n) image) (omega (arith, div-add-mod' n (p .page)))))
+        let whole : length (take (pageStart (p .page) n) image) ≡ pageStart (p .page) n =
+        length-take-le (pageStart (p .page) n) image (omega (arith, div-add-mod' n (p .page))) in
+        rw (paged .flash-is) (rw whole at (drop-overlay d (p .offset) (take (pageStart (p .page) n) image)
+        (omega (arith, div-add-mod' n (p .page)))))
 
     waiting-length : length (before .upload .waiting) ≡ n % p .page
     waiting-length = rw (paged .waiting-is) (length-drop (pageStart (p .page) n) image ∙ omega (arith, div-add-mod' n (p .page)))
@@ -89,13 +94,15 @@ module _ (p : Profile) (facts : ProfileFacts p) (d : List ℕ) (room : p .offset
       waiting-page : before .upload .waiting ++ rest ≡ pageOf (p .page) (image ++ rest) (n / p .page)
       waiting-page =
           let appended : drop (pageStart (p .page) n) (image ++ rest) ≡ before .upload .waiting ++ rest =
-          drop-append-le (pageStart (p .page) n) image rest (omega (arith, div-add-mod' n (p .page))) ∙ ap (λ (ws : List ℕ). ws ++ rest) (sym (paged .waiting-is)) in
+          drop-append-le (pageStart (p .page) n) image rest (omega (arith, div-add-mod' n (p .page)))
+          ∙ ap (λ (ws : List ℕ). ws ++ rest) (sym (paged .waiting-is)) in
           sym (ap (take (p .page)) appended ∙ take-all (p .page) (before .upload .waiting ++ rest) within)
 
       standing-stood : (u : Upload) → u .waiting ≡ before .upload .waiting ++ rest → u .next ≡ n + length rest
           → standing p (record { upload = u; flash = before .flash }) ≡ stood p d (image ++ rest) (n / p .page)
       standing-stood u waits next =
-          let long : length (u .waiting) ≡ n % p .page + length rest = ap length waits ∙ length-append (before .upload .waiting) rest ∙ rw waiting-length in
+          let long : length (u .waiting) ≡ n % p .page + length rest =
+          ap length waits ∙ length-append (before .upload .waiting) rest ∙ rw waiting-length in
           let place : placed p u ≡ p .offset + pageStart (p .page) n = omega (arith, div-add-mod' n (p .page)) in
           let page-is : u .waiting ≡ pageOf (p .page) (image ++ rest) (n / p .page) = waits ∙ waiting-page in
           rw (place, flash-ahead, page-is)
@@ -126,7 +133,8 @@ module _ (p : Profile) (facts : ProfileFacts p) (d : List ℕ) (room : p .offset
     whole-pages = changes-append p d image (b ∷ []) (length image / p .page) (omega (arith, div-add-mod' (length image) (p .page)))
 
     -- a byte that ends a page
-    counted-end : (length image + 1) % p .page ≡ 0 → takenAll p (begins d) longer .upload .count ≡ changes p d longer (length longer / p .page)
+    counted-end : (length image + 1) % p .page ≡ 0
+        → takenAll p (begins d) longer .upload .count ≡ changes p d longer (length longer / p .page)
     unfolding taken changes
     counted-end e =
         let here : (g .upload .next + 1) % p .page ≡ 0 = rw next-is e in
@@ -137,7 +145,8 @@ module _ (p : Profile) (facts : ProfileFacts p) (d : List ℕ) (room : p .offset
         committed-overlay p filled
         (more-fitting p facts g b (omega (arith, kept .flash-length)) (kept .formed) (omega (arith, next-is))) in
         let found : standing p filled ≡ stood p d longer (length image / p .page) =
-        standing-stood image fits (b ∷ []) (omega (arith, length-more p facts g b, waiting-length image fits, mod-lt (length image) pos)) (more p facts g b) refl (rw next-is) in
+        standing-stood image fits (b ∷ []) (omega (arith, length-more p facts g b, waiting-length image fits, mod-lt (length image) pos))
+        (more p facts g b) refl (rw next-is) in
         let pages : length longer / p .page ≡ suc (length image / p .page) = rw length-longer (div-end (p .page) (length image) pos e) in
         ap (λ (q : Progress). q .upload .count) (one-more ∙ ends ∙ laid)
         ∙ rw (found, counted, ← whole-pages, pages)
@@ -148,7 +157,8 @@ module _ (p : Profile) (facts : ProfileFacts p) (d : List ℕ) (room : p .offset
         by-test (eqb ((length image + 1) % p .page) 0) (λ e. counted-end (eqb-true _ _ e))
         (λ e. rw (one-more, next-is, e, length-longer, div-below (p .page) (length image) pos (eqb-false _ _ e), whole-pages) counted)
 
-  counted-all : (image bs : List ℕ) → length image + length bs ≤ p .size → takenAll p (begins d) image .upload .count ≡ changes p d image (length image / p .page)
+  counted-all : (image bs : List ℕ) → length image + length bs ≤ p .size
+      → takenAll p (begins d) image .upload .count ≡ changes p d image (length image / p .page)
       → takenAll p (begins d) (image ++ bs) .upload .count ≡ changes p d (image ++ bs) (length (image ++ bs) / p .page)
   counted-all image [] fits counted = rw append-nil counted
   counted-all image (b ∷ bs) fits counted =
@@ -156,7 +166,8 @@ module _ (p : Profile) (facts : ProfileFacts p) (d : List ℕ) (room : p .offset
       (counted-all (image ++ b ∷ []) bs (simp length-append (omega arith)) (counted-longer image b (omega arith) counted))
 
   -- before the finalize: the whole pages that change
-  pub takenAll-count : (image : List ℕ) → length image ≤ p .size → takenAll p (begins d) image .upload .count ≡ changes p d image (length image / p .page)
+  pub takenAll-count : (image : List ℕ) → length image ≤ p .size
+      → takenAll p (begins d) image .upload .count ≡ changes p d image (length image / p .page)
   unfolding takenAll changes
   takenAll-count image fits = counted-all [] image (omega arith) (rw (zero-div (p .page)))
 
@@ -171,7 +182,8 @@ module _ (p : Profile) (facts : ProfileFacts p) (d : List ℕ) (room : p .offset
       let full : length (g .upload .waiting) ≡ length image % p .page = waiting-length image fits in
       let found : standing p g ≡ stood p d image (length image / p .page) =
       rw append-nil at
-      (standing-stood image fits [] (simp length-append (omega (arith, full, mod-lt (length image) pos))) (g .upload) (sym (append-nil (g .upload .waiting))) (omega (arith, paged image fits .next-is))) in
+      (standing-stood image fits [] (simp length-append (omega (arith, full, mod-lt (length image) pos))) (g .upload)
+      (sym (append-nil (g .upload .waiting))) (omega (arith, paged image fits .next-is))) in
       by-test (eqb (length (g .upload .waiting)) 0)
       (λ e.
       let none : g .upload .waiting ≡ [] = length-zero (g .upload .waiting) (eqb-true _ _ e) in

@@ -1,5 +1,5 @@
--- Laws of requests and replies as frames: what a board finds in a request, and what the decoder finds in a reply. Why: on each bus both are a header,
--- a body and the body's check sum.
+-- Laws of requests and replies as frames: what a board finds in a request, and what the decoder finds in a reply. Why: on each bus both are
+-- a header, a body and the body's check sum.
 use mathlib.Core.Path.{_≡_, refl, ap, _∙_}
 use mathlib.Core.Bool.{true, false, not, and-eq-true-iff}
 use mathlib.Core.List.{List, [], _∷_, _++_, append-assoc}
@@ -14,7 +14,8 @@ use Rattle.rules.specs.declared.kinds.Bus.the-variants.{I2c, Rs485}
 use Rattle.rules.specs.declared.kinds.Address.{Address}
 use Rattle.rules.specs.declared.kinds.Verdict.the-variants.{Command}
 use Rattle.rules.specs.CheckSums.{sum, sealed, sumRight}
-use Rattle.rules.specs.Frames.{headerLength, shortestRequest, shortestReply, request, reply, destination, addressed, framing, verdict, commandOf, argumentsOf}
+use Rattle.rules.specs.Frames.{headerLength, shortestRequest, shortestReply, request, reply, destination, addressed, framing, verdict}
+use Rattle.rules.specs.Frames.{commandOf, argumentsOf}
 use Rattle.rules.specs.Commands.{served}
 use Rattle.rules.specs.Master.{resultsMissing, lengthRight, fromOther, statusOf, countOf, opened, decoded}
 use Rattle.laws.proofs.CommandLaws.{length-reply}
@@ -22,7 +23,8 @@ use Rattle.laws.proofs.CheckSumLaws.{length-sealed, unsealed-sealed, su
 
 -- requests
 
-pub length-request : (bus : Bus) (to code : ℕ) (arguments : List ℕ) → length (request bus to code arguments) ≡ shortestRequest bus + length arguments
+pub length-request : (bus : Bus) (to code : ℕ) (arguments : List ℕ)
+    → length (request bus to code arguments) ≡ shortestRequest bus + length arguments
 unfolding request
 length-request I2c to code arguments = omega (arith, length-sealed I2c (code ∷ arguments))
 length-request Rs485 to code arguments = omega (arith, length-sealed Rs485 (to ∷ code ∷ arguments))
@@ -123,17 +125,21 @@ module _ (to status : ℕ) (results more : List ℕ) where
 
   lengthRight-reply : (bus : Bus) → Ends bus more → lengthRight bus (length results) (length (got bus)) ≡ true
   lengthRight-reply I2c ends = le-leb (length results + shortestReply I2c) (length (got I2c)) (omega (arith, length-got I2c))
-  lengthRight-reply Rs485 ends = eq-eqb (length results + shortestReply Rs485) (length (got Rs485)) (omega (arith, length-got Rs485, ap length ends))
+  lengthRight-reply Rs485 ends =
+      eq-eqb (length results + shortestReply Rs485) (length (got Rs485)) (omega (arith, length-got Rs485, ap length ends))
 
   take-reply : (bus : Bus) → take (length results + shortestReply bus) (got bus) ≡ reply bus to status results
-  take-reply bus = take-at (reply bus to status results) more (length results + shortestReply bus) (omega (arith, length-reply bus to status results))
+  take-reply bus =
+      take-at (reply bus to status results) more (length results + shortestReply bus) (omega (arith, length-reply bus to status results))
 
   pub results-reply : (bus : Bus) → take (length results) (drop (headerLength bus + 2) (got bus)) ≡ results
   unfolding reply sealed
   results-reply I2c =
-      ap (take (length results)) (append-assoc results (sum I2c (status ∷ length results ∷ results)) more) ∙ take-at results _ (length results) refl
+      ap (take (length results)) (append-assoc results (sum I2c (status ∷ length results ∷ results)) more)
+      ∙ take-at results _ (length results) refl
   results-reply Rs485 =
-      ap (take (length results)) (append-assoc results (sum Rs485 (to ∷ status ∷ length results ∷ results)) more) ∙ take-at results _ (length results) refl
+      ap (take (length results)) (append-assoc results (sum Rs485 (to ∷ status ∷ length results ∷ results)) more)
+      ∙ take-at results _ (length results) refl
 
   -- the decoder reads it
   pub decoded-reply : (bus : Bus) (code asked : ℕ) → served code ≡ true → Ends bus more → status ≤ 5

@@ -1,5 +1,5 @@
--- Laws of an upload as a whole: the bytes accepted since its write at zero lie in flash as one overlay, but for those that wait, and a finalize lays
--- these too. Why: each commit lays its bytes where the ones before end (`overlay-overlay`). All over the page.
+-- Laws of an upload as a whole: the bytes accepted since its write at zero lie in flash as one overlay, but for those that wait, and a
+-- finalize lays these too. Why: each commit lays its bytes where the ones before end (`overlay-overlay`). All over the page.
 use mathlib.Core.Path.{_≡_, refl, sym, ap, _∙_}
 use mathlib.Core.List.{List, [], _∷_, _++_, append-assoc, append-nil}
 use Prim.Native.Nat.{ℕ, _+_, _-_, _%_, _<_, _≤_}
@@ -16,9 +16,11 @@ use Rattle.rules.specs.Commit.{Progress, pageStart, taken, takenAll, finalized}
 use Rattle.laws.proofs.BytesLaws.{length-overlay, overlay-none, overlay-overlay}
 use Rattle.laws.proofs.CommitLaws.{placed, committed-overlay}
 use Rattle.laws.proofs.StateLaws.{length-zero, ProfileFacts, UploadFacts}
-use Rattle.laws.proofs.UploadLaws.{by-test, suc-mod-inner, more, length-more, more-fitting, waiting-committed, next-committed, next-taken, formed-fitting, takenAll-kept}
+use Rattle.laws.proofs.UploadLaws.{by-test, suc-mod-inner, more, length-more, more-fitting, waiting-committed, next-committed}
+use Rattle.laws.proofs.UploadLaws.{next-taken, formed-fitting, takenAll-kept}
 
--- an upload of which the image's bytes are accepted so far, over the flash d that it began with: the first of them are done, the others wait
+-- an upload of which the image's bytes are accepted so far, over the flash d that it began with: the first of them are done, the others
+-- wait
 pub record Stands (p : Profile) (d image : List ℕ) (g : Progress) : Type 0 where
   pub done : List ℕ
   pub parts : image ≡ done ++ g .upload .waiting
@@ -41,7 +43,8 @@ module _ (p : Profile) (d image : List ℕ) (g : Progress) (stands : Stands p d 
   done-length = omega (arith, stands .next-is, ap length (stands .parts), length-append (stands .done) (g .upload .waiting))
 
   -- the waiting bytes, with more behind them, laid where they belong
-  pub laid-on : (u : Upload) (ws : List ℕ) → placed p u ≡ p .offset + length (stands .done) → p .offset + length (stands .done) + length ws ≤ length d
+  pub laid-on : (u : Upload) (ws : List ℕ) → placed p u ≡ p .offset + length (stands .done)
+      → p .offset + length (stands .done) + length ws ≤ length d
       → overlay (g .flash) (placed p u) ws ≡ overlay d (p .offset) (stands .done ++ ws)
   laid-on u ws at room = rw (stands .flash-is, at) (overlay-overlay d (p .offset) (stands .done) ws room)
 
@@ -61,7 +64,11 @@ module _ (p : Profile) (d image : List ℕ) (g : Progress) (stands : Stands p d 
         let all : image ++ b ∷ [] ≡ stands .done ++ ws = rw (stands .parts) (append-assoc (stands .done) (g .upload .waiting) (b ∷ [])) in
         let next : g .upload .next + 1 ≡ length (image ++ b ∷ []) = omega (arith, stands .next-is, length-append image (b ∷ [])) in
         by-test (eqb ((g .upload .next + 1) % p .page) 0)
-        (λ e. rw (e, committed-overlay p (record { upload = more p facts g b; flash = g .flash }) (more-fitting p facts g b lent formed below))
+        (λ e. rw (
+          e,
+          committed-overlay p (record { upload = more p facts g b; flash = g .flash })
+              (more-fitting p facts g b lent formed below),
+        )
         (record {
           done = stands .done ++ ws;
           parts = rw append-nil all;
@@ -78,10 +85,12 @@ module _ (p : Profile) (d image : List ℕ) (g : Progress) (stands : Stands p d 
         by-test (eqb (length (g .upload .waiting)) 0)
         (λ e. rw e (stands .flash-is ∙ ap (overlay d (p .offset)) (nothing-waits (eqb-true _ _ e))))
         (λ e. rw (e, committed-overlay p g (formed-fitting p facts g lent formed))
-        (laid-on u (u .waiting) (omega (arith, done-length)) (omega (arith, done-length, formed .next-most)) ∙ ap (overlay d (p .offset)) (sym (stands .parts))))
+        (laid-on u (u .waiting) (omega (arith, done-length)) (omega (arith, done-length, formed .next-most))
+        ∙ ap (overlay d (p .offset)) (sym (stands .parts))))
       where
         nothing-waits : length (g .upload .waiting) ≡ 0 → stands .done ≡ image
-        nothing-waits e = sym (stands .parts ∙ ap (λ (ws : List ℕ). stands .done ++ ws) (length-zero (g .upload .waiting) e) ∙ append-nil (stands .done))
+        nothing-waits e =
+            sym (stands .parts ∙ ap (λ (ws : List ℕ). stands .done ++ ws) (length-zero (g .upload .waiting) e) ∙ append-nil (stands .done))
 
 module _ (p : Profile) (facts : ProfileFacts p) (d : List ℕ) (room : p .offset + p .size ≤ length d) where
   -- many bytes more
@@ -96,7 +105,8 @@ module _ (p : Profile) (facts : ProfileFacts p) (d : List ℕ) (room : p .offset
       (omega (arith, next-taken p g b)))
 
   -- a finished upload: the image stands in flash, and every other byte is as it was
-  pub finished-flash : (image : List ℕ) → length image ≤ p .size → finalized p (takenAll p (begins d) image) .flash ≡ overlay d (p .offset) image
+  pub finished-flash : (image : List ℕ) → length image ≤ p .size
+      → finalized p (takenAll p (begins d) image) .flash ≡ overlay d (p .offset) image
   finished-flash image fits =
       let kept = takenAll-kept p facts (begins d) image room (begins-formed p) (omega arith) in
       finalized-stands p d image (takenAll p (begins d) image)
@@ -126,18 +136,30 @@ pub record Paged (p : Profile) (d image : List ℕ) (g : Progress) : Type 0 wher
   pub waiting-is : g .upload .waiting ≡ drop (pageStart (p .page) (length image)) image
   pub flash-is : g .flash ≡ overlay d (p .offset) (take (pageStart (p .page) (length image)) image)
 
-pub takenAll-paged : (p : Profile) → ProfileFacts p → (d : List ℕ) → p .offset + p .size ≤ length d → (image : List ℕ) → length image ≤ p .size
+pub takenAll-paged : (p : Profile) → ProfileFacts p → (d : List ℕ) → p .offset + p .size ≤ length d → (image : List ℕ)
+    → length image ≤ p .size
     → Paged p d image (takenAll p (begins d) image)
 takenAll-paged p facts d room image fits =
     let g : Progress = takenAll p (begins d) image in
-    let stands : Stands p d image g = takenAll-stands p facts d room [] (begins d) image (begins-stands p d) (begins-formed p) (omega arith) in
+    let stands : Stands p d image g =
+    takenAll-stands p facts d room [] (begins d) image (begins-stands p d) (begins-formed p) (omega arith) in
     let full = takenAll-unbroken p (omega (arith, facts .page-is)) (begins d) image (sym (zero-mod (p .page))) in
     let many : length (stands .done) ≡ pageStart (p .page) (length image) =
-    omega (arith, done-length p d image g stands, stands .next-is, full ∙ ap (λ (n : ℕ). n % p .page) (stands .next-is), div-add-mod' (length image) (p .page)) in
+    omega (
+      arith,
+      done-length p d image g stands,
+      stands .next-is,
+      full
+          ∙ ap (λ (n : ℕ). n % p .page) (stands .next-is),
+      div-add-mod' (length image) (p .page),
+    ) in
     record {
       next-is = stands .next-is;
-      waiting-is = sym (ap (drop (pageStart (p .page) (length image))) (stands .parts) ∙ drop-at (stands .done) (g .upload .waiting) _ many);
-      flash-is = stands .flash-is ∙ ap (overlay d (p .offset)) (sym (ap (take (pageStart (p .page) (length image))) (stands .parts) ∙ take-at (stands .done) (g .upload .waiting) _ many));
+      waiting-is =
+          sym (ap (drop (pageStart (p .page) (length image))) (stands .parts) ∙ drop-at (stands .done) (g .upload .waiting) _ many);
+      flash-is =
+          stands .flash-is ∙ ap (overlay d (p .offset))
+          (sym (ap (take (pageStart (p .page) (length image))) (stands .parts) ∙ take-at (stands .done) (g .upload .waiting) _ many));
     }
 
 -- bytes laid over a list, seen from outside
@@ -166,7 +188,8 @@ module _ (d : List ℕ) (at : ℕ) (bytes : List ℕ) (fits : at + length bytes 
   unfolding overlay
   getD-overlay-before i below =
       let front : length (take at d) ≡ at = length-take-le at d (omega arith) in
-      rw (append-assoc (take at d) bytes (drop (at + length bytes) d)) (List·getD-append (take at d) _ 0 i (omega arith) ∙ getD-take at d i 0 below)
+      rw (append-assoc (take at d) bytes (drop (at + length bytes) d))
+      (List·getD-append (take at d) _ 0 i (omega arith) ∙ getD-take at d i 0 below)
 
   pub getD-overlay-behind : (i : ℕ) → at + length bytes ≤ i → getD (overlay d at bytes) i 0 ≡ getD d i 0
   unfolding overlay

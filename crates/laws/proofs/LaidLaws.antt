@@ -34,6 +34,7 @@ pub laid-over : (xs ys out : List ℕ) → laid (xs ++ ys) (laid xs out) ≡ lai
 laid-over xs ys out = rw (length-append) (ap (λ (l : List ℕ). (xs ++ ys) ++ l) (drop-laid xs out (length ys)))
 
 -- the check sum behind those laid
-pub laid-sealed : (bus : Bus) (xs out : List ℕ) (n : ℕ) → length xs ≡ n → laid (sealed bus (take n (laid xs out))) (laid xs out) ≡ laid (sealed bus xs) out
+pub laid-sealed : (bus : Bus) (xs out : List ℕ) (n : ℕ) → length xs ≡ n
+    → laid (sealed bus (take n (laid xs out))) (laid xs out) ≡ laid (sealed bus xs) out
 unfolding sealed
 laid-sealed bus xs out n e = rw (take-laid xs out n e) (laid-over xs (sum bus xs) out)

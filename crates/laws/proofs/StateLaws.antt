@@ -1,5 +1,5 @@
--- Laws of the range rule, of the malformed-state rule and of the numbers 2 to 5: the facts that each rule stands for, as a record with a name for
--- each fact, both ways; and of `used`, the bytes in use of a buffer.
+-- Laws of the range rule, of the malformed-state rule and of the numbers 2 to 5: the facts that each rule stands for, as a record with a
+-- name for each fact, both ways; and of `used`, the bytes in use of a buffer.
 use mathlib.Core.Path.{_≡_, refl, ap, _∙_}
 use mathlib.Core.List.{List, [], _∷_, _++_}
 use mathlib.Core.Bool.{Bool, true, false, cond, not, _&&_}
@@ -202,7 +202,8 @@ refusal-unrefused p s n m e =
       state = wellFormed-facts p s formed;
     }
 
-pub unrefused-refusal : (p : Profile) (s : State) (n m : ℕ) → inRange p ≡ true → wellFormed p s ≡ true → p .offset + p .size ≤ n → p .longest ≤ m
+pub unrefused-refusal : (p : Profile) (s : State) (n m : ℕ) → inRange p ≡ true → wellFormed p s ≡ true → p .offset + p .size ≤ n
+    → p .longest ≤ m
     → refusal p s n m ≡ 0
 unfolding refusal
 unrefused-refusal p s n m range formed flash buffer = rw (range, le-ltb _ _ flash, formed, le-ltb _ _ buffer)

@@ -1,5 +1,5 @@
--- Laws of an upload: next grows by the bytes taken, and a well-formed upload stays well formed over flash that keeps its length. Why: a commit
--- uses up at least one waiting byte, which pays for its count; the waiting bytes lie within one page.
+-- Laws of an upload: next grows by the bytes taken, and a well-formed upload stays well formed over flash that keeps its length. Why: a
+-- commit uses up at least one waiting byte, which pays for its count; the waiting bytes lie within one page.
 use mathlib.Core.Path.{_≡_, refl, ap, _∙_}
 use mathlib.Core.Bool.{Bool, true, false}
 use mathlib.Core.List.{List, [], _∷_, _++_}
@@ -30,13 +30,15 @@ found p g = take (p .page) (drop (p .offset + pageStart (p .page) (g .upload .ne
 pub next-committed : (p : Profile) (g : Progress) → committed p g .upload .next ≡ g .upload .next
 unfolding committed
 next-committed p g =
-    by-test (same (found p g) (overlay (found p g) ((g .upload .next - length (g .upload .waiting)) % p .page) (g .upload .waiting))) (λ e. rw e) (λ e. rw e)
+    by-test (same (found p g) (overlay (found p g) ((g .upload .next - length (g .upload .waiting)) % p .page) (g .upload .waiting)))
+    (λ e. rw e) (λ e. rw e)
 
 -- and a commit leaves nothing waiting
 pub waiting-committed : (p : Profile) (g : Progress) → committed p g .upload .waiting ≡ []
 unfolding committed
 waiting-committed p g =
-    by-test (same (found p g) (overlay (found p g) ((g .upload .next - length (g .upload .waiting)) % p .page) (g .upload .waiting))) (λ e. rw e) (λ e. rw e)
+    by-test (same (found p g) (overlay (found p g) ((g .upload .next - length (g .upload .waiting)) % p .page) (g .upload .waiting)))
+    (λ e. rw e) (λ e. rw e)
 
 pub next-taken : (p : Profile) (g : Progress) (b : ℕ) → taken p g b .upload .next ≡ g .upload .next + 1
 unfolding taken
@@ -81,7 +83,8 @@ committed-kept : (p : Profile) (g : Progress) → Fitting p g → 0 < length (g 
 committed-kept p g f some paid =
     rw (committed-overlay p g f)
     (record {
-      formed = record { next-most = f .next-le; waiting-most = omega arith; count-most = omega (arith, raise-le (standing p g), f .held-le) };
+      formed =
+          record { next-most = f .next-le; waiting-most = omega arith; count-most = omega (arith, raise-le (standing p g), f .held-le) };
       flash-length = length-overlay (g .flash) (placed p (g .upload)) (g .upload .waiting) (omega (arith, f .room, f .next-le, f .held-le));
     })
 
@@ -94,7 +97,8 @@ module _ (p : Profile) (facts : ProfileFacts p) (g : Progress) (b : ℕ) where
   pub length-more : length (more .waiting) ≡ length (g .upload .waiting) + 1
   length-more = length-append (g .upload .waiting) (b ∷ [])
 
-  module _ (room : p .offset + p .size ≤ length (g .flash)) (formed : UploadFacts (p .page) (p .size) (g .upload)) (below : g .upload .next < p .size) where
+  module _ (room : p .offset + p .size ≤ length (g .flash)) (formed : UploadFacts (p .page) (p .size) (g .upload))
+      (below : g .upload .next < p .size) where
     pub more-fitting : Fitting p (record { upload = more; flash = g .flash })
     more-fitting =
         let pos : 0 < p .page = omega (arith, facts .page-is) in

@@ -10,7 +10,8 @@ use Rattle.rules.specs.declared.kinds.Bus.{Bus}
 use Rattle.rules.specs.declared.kinds.Bus.the-variants.{I2c, Rs485}
 use Rattle.rules.specs.declared.kinds.Address.{Address}
 use Rattle.rules.specs.declared.kinds.Verdict.{Verdict}
-use Rattle.rules.specs.declared.kinds.Verdict.the-variants.{Reset, Running, ResetAddress, Short, Long, WrongSum, Foreign, OtherGeneral, BadTransfer, BadSum, Command}
+use Rattle.rules.specs.declared.kinds.Verdict.the-variants.{Reset, Running, ResetAddress, Short, Long, WrongSum, Foreign, OtherGeneral}
+use Rattle.rules.specs.declared.kinds.Verdict.the-variants.{BadTransfer, BadSum, Command}
 use Rattle.rules.specs.CheckSums.{sumRight}
 use Rattle.rules.specs.Frames.{shortestRequest, resetFrame, resetAddressFrame, destination, addressed, framing, isGeneral, verdict}
 use Rattle.laws.proofs.UploadLaws.{by-test}
@@ -38,7 +39,8 @@ pub record Framings (bus : Bus) (M : ℕ) (own : Address) (a : ℕ) (f : List �
 ||-false true b e = (e, cc)
 ||-false false b e = (refl, e)
 
-pub framing-cases : (bus : Bus) (M : ℕ) (own : Address) (a : ℕ) (f : List ℕ) (P : Verdict → Type 0) → Framings bus M own a f P → P (framing bus M own a f)
+pub framing-cases : (bus : Bus) (M : ℕ) (own : Address) (a : ℕ) (f : List ℕ) (P : Verdict → Type 0) → Framings bus M own a f P
+    → P (framing bus M own a f)
 unfolding framing
 framing-cases I2c M own a f P c =
     by-test (eqb a 0) (λ e. rw e (c .other-general))
@@ -50,7 +52,14 @@ framing-cases I2c M own a f P c =
     (by-test (sumRight I2c f)
     (λ sum. rw sum
     (let size = ||-false (ltb (length f) (shortestRequest I2c)) (ltb M (length f)) sized in
-    c .command (record { not-general = not-general; heard = heard; length-least = ltb-false _ _ (size .0); length-most = ltb-false _ _ (size .1); sum-right = sum })))
+    c .command (record {
+      not-general = not-general;
+      heard = heard;
+      length-least = ltb-false _ _ (size .0);
+      length-most =
+          ltb-false _ _ (size .1);
+      sum-right = sum;
+    })))
     (λ e. rw e (c .bad-sum refl))))))
     (λ e. rw e (c .foreign))))
 framing-cases Rs485 M own a f P c =
@@ -64,7 +73,13 @@ framing-cases Rs485 M own a f P c =
     (λ not-general. rw not-general
     (by-test (addressed Rs485 own (getD f 0 0))
     (λ heard. rw heard
-    (c .command (record { not-general = not-general; heard = heard; length-least = ltb-false _ _ least; length-most = ltb-false _ _ most; sum-right = sum })))
+    (c .command (record {
+      not-general = not-general;
+      heard = heard;
+      length-least = ltb-false _ _ least;
+      length-most = ltb-false _ _ most;
+      sum-right = sum;
+    })))
     (λ e. rw e (c .foreign))))))
     (λ e. rw e (c .wrong-sum refl))))))
 
@@ -72,8 +87,10 @@ framing-cases Rs485 M own a f P c =
 pub record Verdicts (bus : Bus) (M : ℕ) (running : Bool) (own : Address) (a : ℕ) (f : List ℕ) (P : Verdict → Type 0) : Type 0 where
   pub reset : isGeneral bus a f (resetFrame bus) ≡ true → P Reset
   pub run : isGeneral bus a f (resetFrame bus) ≡ false → running ≡ true → P Running
-  pub reset-address : isGeneral bus a f (resetFrame bus) ≡ false → running ≡ false → isGeneral bus a f (resetAddressFrame bus) ≡ true → P ResetAddress
-  pub framed : isGeneral bus a f (resetFrame bus) ≡ false → running ≡ false → isGeneral bus a f (resetAddressFrame bus) ≡ false → P (framing bus M own a f)
+  pub reset-address : isGeneral bus a f (resetFrame bus) ≡ false → running ≡ false → isGeneral bus a f (resetAddressFrame bus) ≡ true
+      → P ResetAddress
+  pub framed : isGeneral bus a f (resetFrame bus) ≡ false → running ≡ false → isGeneral bus a f (resetAddressFrame bus) ≡ false
+      → P (framing bus M own a f)
 
 pub verdict-cases : (bus : Bus) (M : ℕ) (running : Bool) (own : Address) (a : ℕ) (f : List ℕ) (P : Verdict → Type 0)
     → Verdicts bus M running own a f P → P (verdict bus M running own a f)

@@ -1,6 +1,6 @@
--- The same upload again counts 0. A fact of the ledger alone: after the first finalize its copy D has the bytes; until the first accepted write
--- nothing is left to commit, so further finalizes do nothing; from that write on the accepted bytes are the first of those bytes (`Pieces`), and
--- nothing counts.
+-- The same upload again counts 0. A fact of the ledger alone: after the first finalize its copy D has the bytes; until the first accepted
+-- write nothing is left to commit, so further finalizes do nothing; from that write on the accepted bytes are the first of those bytes
+-- (`Pieces`), and nothing counts.
 use mathlib.Core.Path.{_≡_, refl}
 use mathlib.Core.Bool.{Bool, true, false, cond, not, false≢true, and-eq-true-iff}
 use mathlib.Core.List.{List, [], _∷_, _++_}
@@ -50,12 +50,14 @@ module _ (p : Profile) (D bs : List ℕ) (has : Has p D bs) where
       w : Piece
       w = record { address = writeAddress (p .bus) f; bytes = writeData (p .bus) f }
 
-      go : (t z : Bool) → Phase D bs (cond t (w ∷ []) [] ++ ws) k → Phase D bs ws (cond t (writes p k (w .address) (w .bytes)) (cond z (finalizes p k) k))
+      go : (t z : Bool) → Phase D bs (cond t (w ∷ []) [] ++ ws) k
+          → Phase D bs ws (cond t (writes p k (w .address) (w .bytes)) (cond z (finalizes p k) k))
       go true z i = write-phase w ws k i
       go false true i = finalizes-phase ws k i
       go false false i = i
 
-  steps-phase : (ss : List Step) (k : Ledger) → Chained p k ss → noReset p ss ≡ true → Phase D bs (pieces p ss) k → Phase D bs [] (ends k ss)
+  steps-phase : (ss : List Step) (k : Ledger) → Chained p k ss → noReset p ss ≡ true → Phase D bs (pieces p ss) k
+      → Phase D bs [] (ends k ss)
   unfolding noReset pieces
   steps-phase [] k chain none i = i
   steps-phase (s ∷ ss) k chain none i =
@@ -64,14 +66,16 @@ module _ (p : Profile) (D bs : List ℕ) (has : Has p D bs) where
       (rw (chain .0) (step-phase s (s .call) (pieces p ss) k (not-true _ (both .0)) i))
 
   -- a finalize after all pieces counts 0
-  finalize-zero : (s : Step) (c : Call) (k : Ledger) → finalizing p s c ≡ true → Phase D bs [] k → fed p k c (s .number) (s .reply) .count ≡ 0
+  finalize-zero : (s : Step) (c : Call) (k : Ledger) → finalizing p s c ≡ true → Phase D bs [] k
+      → fed p k c (s .number) (s .reply) .count ≡ 0
   finalize-zero s c k e (before i) = absurd (false≢true (i .from-zero))
   finalize-zero s (Read a n) k e (within i) = absurd (false≢true e)
   finalize-zero s (Frame a f n) k e (within i) =
       rw (entered-finalize p k a f (s .number) (s .reply) e) (finalizes-repeats p D bs has [] k (i .repeats) .count-is)
 
 -- after a ledger whose bytes are all committed and stand in its copy: the same bytes again, and a finalize
-pub again-zero : (p : Profile) (k : Ledger) (between : List Step) (second : Step) → Has p (k .copy) (k .accepted) → k .committed ≡ length (k .accepted)
+pub again-zero : (p : Profile) (k : Ledger) (between : List Step) (second : Step) → Has p (k .copy) (k .accepted)
+    → k .committed ≡ length (k .accepted)
     → Chained p k between → AcceptedAgain p (k .accepted) between
     → second .ledger ≡ fed p (ends k between) (second .call) (second .number) (second .reply) → finalizeStep p second ≡ true
     → second .ledger .count ≡ 0

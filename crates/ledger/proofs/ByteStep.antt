@@ -1,5 +1,5 @@
--- Accepted bytes: board and ledger take a byte in step and commit at the same time, since a byte ends a page where the number of accepted bytes
--- becomes a multiple of it; until then the uncommitted bytes stay within one page. Likewise a finalize.
+-- Accepted bytes: board and ledger take a byte in step and commit at the same time, since a byte ends a page where the number of accepted
+-- bytes becomes a multiple of it; until then the uncommitted bytes stay within one page. Likewise a finalize.
 use mathlib.Core.Path.{_≡_, refl, ap, _∙_}
 use mathlib.Core.Bool.{Bool, true, false, cond}
 use mathlib.Core.List.{List, [], _∷_}
@@ -49,7 +49,12 @@ module _ (p : Profile) (pages : Paged p) where
         room = rw (g .balanced .as-long) at (g .room);
         accepted-le = omega (arith, g .fits);
         committed-le = omega (arith, g .balanced .committed-le);
-        in-page = rw (length-drop, long) (omega (arith, g .balanced .committed-le, page-ends (p .page) (length (k .accepted)) (pages .page-pos) end));
+        in-page =
+            rw (length-drop, long) (omega (
+              arith,
+              g .balanced .committed-le,
+              page-ends (p .page) (length (k .accepted)) (pages .page-pos) end,
+            ));
       }
 
   -- the ledger goes on by a byte
@@ -60,7 +65,9 @@ module _ (p : Profile) (pages : Paged p) where
       let long = length-more k b in
       let room : p .offset + length (k .accepted) + 1 ≤ length (k .copy) = omega (arith, g .fits, g .room, g .balanced .as-long) in
       record {
-        balanced = commits-consistent p (more k b) (more-consistent p k b (pages .page-pos) (g .balanced)) (more-due p k b (pages .page-pos) (g .balanced) room end);
+        balanced =
+            commits-consistent p (more k b) (more-consistent p k b (pages .page-pos) (g .balanced))
+            (more-due p k b (pages .page-pos) (g .balanced) room end);
         in-page = rw (drop-length (more k b .accepted)) (omega arith);
         fits = omega (arith, g .fits);
         room = g .room;
@@ -88,7 +95,8 @@ module _ (p : Profile) (pages : Paged p) where
 
   -- and the board with it
 
-  more-agrees : (g : Progress) (k : Ledger) (b : ℕ) → k .committed ≤ length (k .accepted) → Agrees g k → Agrees (appended g (b ∷ [])) (more k b)
+  more-agrees : (g : Progress) (k : Ledger) (b : ℕ) → k .committed ≤ length (k .accepted) → Agrees g k
+      → Agrees (appended g (b ∷ [])) (more k b)
   more-agrees g k b le a = record {
     flash-is = a .flash-is;
     count-is = a .count-is;
@@ -117,7 +125,8 @@ module _ (p : Profile) (pages : Paged p) where
   joinsAll-going [] k g = g
   joinsAll-going (b ∷ bs) k g = joinsAll-going bs (joins p k b) (joins-going k b (length bs) g)
 
-  pub joinsAll-agrees : (bs : List ℕ) (g : Progress) (k : Ledger) → Going p k (length bs) → Agrees g k → Agrees (takenAll p g bs) (joinsAll p k bs)
+  pub joinsAll-agrees : (bs : List ℕ) (g : Progress) (k : Ledger) → Going p k (length bs) → Agrees g k
+      → Agrees (takenAll p g bs) (joinsAll p k bs)
   unfolding joinsAll takenAll
   joinsAll-agrees [] g k j a = a
   joinsAll-agrees (b ∷ bs) g k j a =
@@ -131,12 +140,16 @@ module _ (p : Profile) (pages : Paged p) where
       let none : g .upload .waiting ≡ [] = a .waiting-is ∙ drop-of-length-le (k .accepted) h in
       rw (eq-eqb (length (g .upload .waiting)) 0 (ap length none)) a
 
-  finalCounted-agrees : (g : Progress) (k : Ledger) → Within p k → k .committed < length (k .accepted) → Agrees g k → Agrees (finalized p g) (commits p (finalCounted k))
+  finalCounted-agrees : (g : Progress) (k : Ledger) → Within p k → k .committed < length (k .accepted) → Agrees g k
+      → Agrees (finalized p g) (commits p (finalCounted k))
   unfolding finalized
   finalCounted-agrees g k w some a =
-      let held : length (g .upload .waiting) ≡ 0 → ⊥ = λ e. omega (arith, ap length (a .waiting-is), length-drop (k .committed) (k .accepted)) in
-      let w′ : Within p (finalCounted k) = record { room = w .room; accepted-le = w .accepted-le; committed-le = w .committed-le; in-page = w .in-page } in
-      let a′ : Agrees g (finalCounted k) = record { flash-is = a .flash-is; count-is = a .count-is; next-is = a .next-is; waiting-is = a .waiting-is } in
+      let held : length (g .upload .waiting) ≡ 0 → ⊥ =
+      λ e. omega (arith, ap length (a .waiting-is), length-drop (k .committed) (k .accepted)) in
+      let w′ : Within p (finalCounted k) =
+      record { room = w .room; accepted-le = w .accepted-le; committed-le = w .committed-le; in-page = w .in-page } in
+      let a′ : Agrees g (finalCounted k) =
+      record { flash-is = a .flash-is; count-is = a .count-is; next-is = a .next-is; waiting-is = a .waiting-is } in
       rw (ne-eqb _ _ held) (commit-agrees p g (finalCounted k) pages w′ a′)
 
   -- both finalize in step

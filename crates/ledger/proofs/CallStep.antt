@@ -1,5 +1,5 @@
--- One board call: if state and flash are the ledger's before it, they are after it. By the numbers 2 to 5, then by the verdict on the frame, in the
--- order in which the rules ask.
+-- One board call: if state and flash are the ledger's before it, they are after it. By the numbers 2 to 5, then by the verdict on the
+-- frame, in the order in which the rules ask.
 use mathlib.Core.Path.{_≡_, refl, sym, _∙_}
 use mathlib.Core.Bool.{Bool, true, false, cond, not, false≢true}
 use mathlib.Core.List.{List, []}
@@ -49,16 +49,17 @@ module _ (p : Profile) (s : State) (d : List ℕ) (k : Ledger) (a : ℕ) (f : Li
         command = λ framed. executed-enters p s d k a f (destination (p .bus) a f) h form;
       })
 
-  verdict-handles : (m : ℕ) → Unrefused p s (length d) m → Keeps p s d k → Handles (verdict (p .bus) (p .longest) (s .running) (s .address) a f)
+  verdict-handles : (m : ℕ) → Unrefused p s (length d) m → Keeps p s d k
+      → Handles (verdict (p .bus) (p .longest) (s .running) (s .address) a f)
   unfolding handled
-  verdict-handles m sound i =
+  verdict-handles m unrefused i =
       let form = reset-form (p .bus) a f in
       verdict-cases (p .bus) (p .longest) (s .running) (s .address) a f Handles
       (record {
         reset = λ e. reset-enters p k a f s d (form ∙ e) i;
         run = λ other on. nothing-no-entry p k a f s d (form ∙ other) i;
         reset-address = λ other off e. nothing-no-entry p k a f (addressReset s) d (form ∙ other) (keeps-other p s d k DefaultRange [] i);
-        framed = λ other off e. framing-handles (unrefused-serving p s d k m sound off i) (form ∙ other);
+        framed = λ other off e. framing-handles (unrefused-serving p s d k m unrefused off i) (form ∙ other);
       })
 
 -- a received frame

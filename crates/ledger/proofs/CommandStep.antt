@@ -1,5 +1,5 @@
--- A well-framed command, by its code: write and finalize are `UploadStep`'s, all others leave the upload as it is, and start loses the waiting bytes
--- of a board that then takes none before a reset.
+-- A well-framed command, by its code: write and finalize are `UploadStep`'s, all others leave the upload as it is, and start loses the
+-- waiting bytes of a board that then takes none before a reset.
 use mathlib.Core.Path.{_≡_, refl, sym}
 use mathlib.Core.Bool.{true, false, _||_, false≢true, and-eq-true-iff}
 use mathlib.Core.List.{List, [], _∷_}
@@ -11,7 +11,8 @@ use Rattle.rules.specs.declared.kinds.Address.the-variants.{Own}
 use Rattle.rules.specs.Profile.{Profile}
 use Rattle.rules.specs.State.{State}
 use Rattle.rules.specs.Frames.{twoBytes, numberAt, commandOf, argumentsOf}
-use Rattle.rules.specs.Commands.{Acted, replying, executed, setAddress, serialNumber, started, shown, lengthAllowed, tabled, addressTaken, hardwareInfo, readable, commandNotSupported, invalidArguments, ok}
+use Rattle.rules.specs.Commands.{Acted, replying, executed, setAddress, serialNumber, started, shown, lengthAllowed, tabled, addressTaken}
+use Rattle.rules.specs.Commands.{hardwareInfo, readable, commandNotSupported, invalidArguments, ok}
 use Rattle.rules.specs.Board.{finishedCall}
 use Rattle.laws.proofs.UploadLaws.{by-test}
 use Rattle.laws.proofs.CommandLaws.{executed-cases}
@@ -24,7 +25,8 @@ write-long : (n : ℕ) → lengthAllowed 0x06 n ≡ true → 2 ≤ n
 unfolding tabled
 write-long n h = leb-true 2 n (and-eq-true-iff (leb 2 n) (leb n 254) .0 h .0)
 
-module _ (p : Profile) (s : State) (d : List ℕ) (k : Ledger) (a : ℕ) (f : List ℕ) (to : ℕ) (h : Serving p s d k) (form : resetForm (p .bus) a f ≡ false) where
+module _ (p : Profile) (s : State) (d : List ℕ) (k : Ledger) (a : ℕ) (f : List ℕ) (to : ℕ) (h : Serving p s d k)
+    (form : resetForm (p .bus) a f ≡ false) where
   abbrev Enters : Acted → Type 0
   Enters act = Entered p k a f (finishedCall (p .bus) to act)
 
@@ -32,7 +34,8 @@ module _ (p : Profile) (s : State) (d : List ℕ) (k : Ledger) (a : ℕ) (f : Li
   kept = serving-keeps p s d k h
 
   -- a reply to another command than write and finalize
-  tells : (c status : ℕ) (results : List ℕ) → commandOf (p .bus) f ≡ c → eqb c 0x06 ≡ false → eqb c 0x07 ≡ false → Enters (replying s d status results)
+  tells : (c status : ℕ) (results : List ℕ) → commandOf (p .bus) f ≡ c → eqb c 0x06 ≡ false → eqb c 0x07 ≡ false
+      → Enters (replying s d status results)
   tells c status results e w z = other-no-entry p k a f to status results s d (rw e w) (rw e z) kept
 
   setAddress-enters : (args : List ℕ) → commandOf (p .bus) f ≡ 0x01 → Enters (setAddress p s args d)
@@ -40,7 +43,8 @@ module _ (p : Profile) (s : State) (d : List ℕ) (k : Ledger) (a : ℕ) (f : Li
   setAddress-enters args e =
       by-test (eqb (getD args 1 0) (p .hardware) || eqb (getD args 1 0) 0)
       (λ own. rw own
-      (other-no-entry p k a f to ok [] _ d (rw e) (rw e) (keeps-other p s d k (Own (addressTaken (p .bus) (getD args 0 0))) (s .last) kept)))
+      (other-no-entry p k a f to ok [] _ d (rw e) (rw e)
+      (keeps-other p s d k (Own (addressTaken (p .bus) (getD args 0 0))) (s .last) kept)))
       (λ foreign. rw foreign (no-reply-no-entry p k a f to s d form kept))
 
   serial-enters : commandOf (p .bus) f ≡ 0x04 → Enters (serialNumber p s d)

@@ -1,5 +1,5 @@
--- Board and ledger commit in step: the board's commit lays its waiting bytes over flash (`committed-overlay`), the ledger's lays its uncommitted
--- ones over the copy (`commits-overlay`), and these are the same bytes at the same place.
+-- Board and ledger commit in step: the board's commit lays its waiting bytes over flash (`committed-overlay`), the ledger's lays its
+-- uncommitted ones over the copy (`commits-overlay`), and these are the same bytes at the same place.
 use mathlib.Core.Path.{_≡_, sym}
 use Prim.Native.Nat.{_+_, _-_, _%_, _<_, _≤_}
 use native.Mathlib.Omega.{arith}
@@ -34,7 +34,8 @@ within-roomy : (p : Profile) (k : Ledger) → Within p k → Roomy p k
 within-roomy p k w = record { committed-le = w .committed-le; room = omega (arith, w .room, w .accepted-le) }
 
 -- where the board's waiting bytes begin is what the ledger has committed
-place : (g : Progress) (k : Ledger) → Agrees g k → k .committed ≤ length (k .accepted) → g .upload .next - length (g .upload .waiting) ≡ k .committed
+place : (g : Progress) (k : Ledger) → Agrees g k → k .committed ≤ length (k .accepted)
+    → g .upload .next - length (g .upload .waiting) ≡ k .committed
 place g k a h = rw (a .waiting-is, a .next-is, length-drop) (omega arith)
 
 agrees-fitting : (p : Profile) (g : Progress) (k : Ledger) → Paged p → Within p k → Agrees g k → Fitting p g

@@ -1,5 +1,5 @@
--- What is true of a ledger however its bytes came: the committed bytes stand over the earlier copy, and the count is within its bounds. A commit
--- with something to commit and room keeps it (two overlays, the second where the first ends), and so do a byte and a finalize.
+-- What is true of a ledger however its bytes came: the committed bytes stand over the earlier copy, and the count is within its bounds. A
+-- commit with something to commit and room keeps it (two overlays, the second where the first ends), and so do a byte and a finalize.
 use mathlib.Core.Path.{_≡_, refl, sym, ap, _∙_}
 use mathlib.Core.Bool.{Bool, true, false, cond}
 use mathlib.Core.List.{List, [], _∷_, _++_}
@@ -77,7 +77,15 @@ commits-consistent p k i u =
 
 -- a ledger with one accepted byte more
 abbrev pub more : Ledger → ℕ → Ledger
-more k b = record { copy = k .copy; earlier = k .earlier; accepted = k .accepted ++ (b ∷ []); committed = k .committed; count = k .count; finals = k .finals }
+more k b =
+    record {
+      copy = k .copy;
+      earlier = k .earlier;
+      accepted = k .accepted ++ (b ∷ []);
+      committed = k .committed;
+      count = k .count;
+      finals = k .finals;
+    }
 
 pub length-more : (k : Ledger) (b : ℕ) → length (more k b .accepted) ≡ length (k .accepted) + 1
 length-more k b = length-append (k .accepted) (b ∷ [])
@@ -108,19 +116,37 @@ module _ (p : Profile) (k : Ledger) (b : ℕ) (pos : 0 < p .page) (i : Consisten
 -- a finalize that finds bytes not committed
 
 abbrev pub finalCounted : Ledger → Ledger
-finalCounted k = record { copy = k .copy; earlier = k .earlier; accepted = k .accepted; committed = k .committed; count = k .count; finals = k .finals + 1 }
+finalCounted k =
+    record {
+      copy = k .copy;
+      earlier = k .earlier;
+      accepted = k .accepted;
+      committed = k .committed;
+      count = k .count;
+      finals =
+          k .finals + 1;
+    }
 
 finalCounted-consistent : (p : Profile) (k : Ledger) → Consistent p k → Consistent p (finalCounted k)
 finalCounted-consistent p k i =
-    record { committed-le = i .committed-le; copy-is = i .copy-is; as-long = i .as-long; count-le = i .count-le; pages-le = omega (arith, i .pages-le) }
+    record {
+      committed-le = i .committed-le;
+      copy-is = i .copy-is;
+      as-long = i .as-long;
+      count-le = i .count-le;
+      pages-le =
+          omega (arith, i .pages-le);
+    }
 
-pub finalizes-consistent : (p : Profile) (k : Ledger) → Consistent p k → p .offset + length (k .accepted) ≤ length (k .copy) → Consistent p (finalizes p k)
+pub finalizes-consistent : (p : Profile) (k : Ledger) → Consistent p k → p .offset + length (k .accepted) ≤ length (k .copy)
+    → Consistent p (finalizes p k)
 unfolding finalizes
 finalizes-consistent p k i room = go (ltb (k .committed) (length (k .accepted))) refl
   where
     go : (t : Bool) → ltb (k .committed) (length (k .accepted)) ≡ t → Consistent p (cond t (commits p (finalCounted k)) k)
     go true e =
-        commits-consistent p (finalCounted k) (finalCounted-consistent p k i) (record { some-rest = ltb-true _ _ e; room = room; pages-lt = omega (arith, i .pages-le) })
+        commits-consistent p (finalCounted k) (finalCounted-consistent p k i)
+        (record { some-rest = ltb-true _ _ e; room = room; pages-lt = omega (arith, i .pages-le) })
     go false e = i
 
 pub finalizes-accepted : (p : Profile) (k : Ledger) → finalizes p k .accepted ≡ k .accepted
@@ -136,7 +162,8 @@ pub record AfterFinalize (p : Profile) (k : Ledger) : Type 0 where
   pub all-committed : k .committed ≡ length (k .accepted)
   pub room : p .offset + length (k .accepted) ≤ length (k .earlier)
 
-pub finalizes-after-finalize : (p : Profile) (k : Ledger) → k .committed ≤ length (k .accepted) → p .offset + length (k .accepted) ≤ length (k .earlier)
+pub finalizes-after-finalize : (p : Profile) (k : Ledger) → k .committed ≤ length (k .accepted)
+    → p .offset + length (k .accepted) ≤ length (k .earlier)
     → AfterFinalize p (finalizes p k)
 unfolding finalizes commits
 finalizes-after-finalize p k le room = go (ltb (k .committed) (length (k .accepted))) refl

@@ -1,5 +1,5 @@
--- Demand 3 of the rules' board, by induction over the list of calls: fresh state and given flash are the new ledger's, and every call keeps it so
--- (`CallStep`). What is claimed of a step is read off there; the claim of two finalizes is the ledger's alone (`Again`).
+-- Demand 3 of the rules' board, by induction over the list of calls: fresh state and given flash are the new ledger's, and every call keeps
+-- it so (`CallStep`). What is claimed of a step is read off there; the claim of two finalizes is the ledger's alone (`Again`).
 use mathlib.Core.Path.{_≡_, refl, sym, _∙_}
 use mathlib.Core.Bool.{true, false≢true}
 use mathlib.Core.List.{List, [], _∷_, _++_, append-assoc}
@@ -24,7 +24,8 @@ record Good (p : Profile) (s : Step) : Type 0 where
   after-finalize : finalizeStep p s ≡ true → AfterFinalize p (s .ledger)
 
 -- an answered finalize
-closed-finished : (p : Profile) (s : Step) → s .flash ≡ s .ledger .copy → Consistent p (s .ledger) → Closed p (s .ledger) (s .reply) → Finished p s
+closed-finished : (p : Profile) (s : Step) → s .flash ≡ s .ledger .copy → Consistent p (s .ledger) → Closed p (s .ledger) (s .reply)
+    → Finished p s
 closed-finished p s flash b c =
     let copy = flash ∙ after-finalize-copy p (s .ledger) b (c .after-finalize) in
     let room = c .after-finalize .room in
@@ -110,7 +111,8 @@ again-holds p k before between after first second good chain e z again =
     let has = after-finalize-has p (first .ledger) (good′ .0 .balanced) after-finalize in
     let link = chained-behind p (first .ledger) between (second ∷ after) chain′ .0 in
     every-behind p between (second ∷ after) (good′ .1) .0 .right .finished z .reply-count
-    ∙ again-zero p (first .ledger) between second has (after-finalize .all-committed) (chained-front p (first .ledger) between (second ∷ after) chain′) again link z
+    ∙ again-zero p (first .ledger) between second has (after-finalize .all-committed)
+    (chained-front p (first .ledger) between (second ∷ after) chain′) again link z
 
 pub demand3 : Demand3 ruled
 demand3 p d cs =
@@ -119,5 +121,7 @@ demand3 p d cs =
     let chain = trace-chained p cs fresh d (opened d) in
     record {
       each = every-right p (trace ruled p fresh d (opened d) cs) good;
-      again = λ before between after first second is. again-holds p (opened d) before between after first second (rw is at good) (rw is at chain);
+      again =
+          λ before between after first second is. again-holds p (opened d) before between after first second (rw is at good)
+          (rw is at chain);
     }

@@ -1,5 +1,5 @@
--- A ledger with all its bytes committed: its copy is the earlier copy with the accepted bytes laid over it, so they stand there byte by byte and
--- every other byte is as it was. By what stands at a place of an overlay.
+-- A ledger with all its bytes committed: its copy is the earlier copy with the accepted bytes laid over it, so they stand there byte by
+-- byte and every other byte is as it was. By what stands at a place of an overlay.
 use mathlib.Core.Path.{_≡_, refl, sym, ap, _∙_}
 use mathlib.Core.Logic.{_⊎_, inl, inr}
 use mathlib.Core.List.{List, _++_, append-assoc}
@@ -55,5 +55,6 @@ module _ (d : List ℕ) (at : ℕ) (bs : List ℕ) (fits : at + length bs ≤ le
       (take-at bs (drop (at + length bs) d) (length bs) refl)
 
 -- all accepted bytes laid over the earlier copy
-pub after-finalize-copy : (p : Profile) (k : Ledger) → Consistent p k → AfterFinalize p k → k .copy ≡ overlay (k .earlier) (p .offset) (k .accepted)
+pub after-finalize-copy : (p : Profile) (k : Ledger) → Consistent p k → AfterFinalize p k
+    → k .copy ≡ overlay (k .earlier) (p .offset) (k .accepted)
 after-finalize-copy p k b s = b .copy-is ∙ rw (s .all-committed, take-length)

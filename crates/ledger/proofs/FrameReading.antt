@@ -1,5 +1,5 @@
--- The ledger reads frames and replies at offsets of its own, knows the reset by its literal bytes, and looks at nothing else. What it reads is what
--- the rules mean: by the shape of a frame on each bus, computed.
+-- The ledger reads frames and replies at offsets of its own, knows the reset by its literal bytes, and looks at nothing else. What it reads
+-- is what the rules mean: by the shape of a frame on each bus, computed.
 use mathlib.Core.Path.{_≡_, refl, sym, ap, _∙_}
 use mathlib.Core.Bool.{Bool, true, false, cond, _&&_, and-eq-true-iff}
 use mathlib.Core.List.{List, [], _∷_}
@@ -16,7 +16,8 @@ use Rattle.rules.specs.Profile.{Profile}
 use Rattle.rules.specs.Bytes.{same}
 use Rattle.rules.specs.CheckSums.{bit, byte, run, sum, sealed, unsealed}
 use Rattle.rules.specs.Frames.{reply, twoBytes, numberAt, commandOf, argumentsOf, isGeneral, resetFrame}
-use Rattle.ledger.specs.Ledger.{Ledger, opened, writes, finalizes, entered, offsets, writeAddress, writeData, replyCount, resetForm, isFinalize, answeredOk}
+use Rattle.ledger.specs.Ledger.{Ledger, opened, writes, finalizes, entered, offsets, writeAddress, writeData, replyCount, resetForm}
+use Rattle.ledger.specs.Ledger.{isFinalize, answeredOk}
 
 pub and-false : (a : Bool) → (a && false) ≡ false
 and-false true = refl
@@ -57,7 +58,8 @@ reset-form Rs485 a f = reset-four f
 
 -- replies
 
-reply-status : (bus : Bus) (address status : ℕ) (results : List ℕ) → getD (reply bus address status results) (offsets bus .command) 1 ≡ status
+reply-status : (bus : Bus) (address status : ℕ) (results : List ℕ)
+    → getD (reply bus address status results) (offsets bus .command) 1 ≡ status
 unfolding reply sealed
 reply-status I2c address status results = refl
 reply-status Rs485 address status results = refl

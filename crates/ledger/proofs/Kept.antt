@@ -1,5 +1,5 @@
--- What is kept between board and ledger from call to call, and the answers of which the ledger makes nothing: a refusal, silence, a reply that says
--- no OK to a write or a finalize. After these neither side has changed; after a reset both begin anew.
+-- What is kept between board and ledger from call to call, and the answers of which the ledger makes nothing: a refusal, silence, a reply
+-- that says no OK to a write or a finalize. After these neither side has changed; after a reset both begin anew.
 use mathlib.Core.Path.{_≡_, refl, sym, _∙_}
 use mathlib.Core.Bool.{true, false, _&&_, false≢true}
 use mathlib.Core.List.{List, []}
@@ -30,7 +30,8 @@ pub record Keeps (p : Profile) (s : State) (d : List ℕ) (k : Ledger) : Type 0 
   pub waiting-is : s .running ≡ false → s .upload .waiting ≡ rest k
 
 pub fresh-keeps : (p : Profile) (d e : List ℕ) → d ≡ e → Keeps p fresh d (opened e)
-fresh-keeps p d e same = record { balanced = opened-consistent p e; flash-is = same; count-is = refl; next-is = refl; waiting-is = λ off. refl }
+fresh-keeps p d e same =
+    record { balanced = opened-consistent p e; flash-is = same; count-is = refl; next-is = refl; waiting-is = λ off. refl }
 
 -- own address and last reply do not matter
 pub keeps-other : (p : Profile) (s : State) (d : List ℕ) (k : Ledger) (own : Address) (last : List ℕ) → Keeps p s d k
@@ -38,7 +39,8 @@ pub keeps-other : (p : Profile) (s : State) (d : List ℕ) (k : Ledger) (own : A
 keeps-other p s d k own last i =
     record { balanced = i .balanced; flash-is = i .flash-is; count-is = i .count-is; next-is = i .next-is; waiting-is = i .waiting-is }
 
-pub keeps-last : (bus : Bus) (p : Profile) (s : State) (d : List ℕ) (k : Ledger) (r : List ℕ) → Keeps p s d k → Keeps p (withLast bus s r) d k
+pub keeps-last : (bus : Bus) (p : Profile) (s : State) (d : List ℕ) (k : Ledger) (r : List ℕ) → Keeps p s d k
+    → Keeps p (withLast bus s r) d k
 keeps-last I2c p s d k r i = keeps-other p s d k (s .address) r i
 keeps-last Rs485 p s d k r i = keeps-other p s d k (s .address) [] i
 
@@ -87,7 +89,8 @@ module _ (p : Profile) (k : Ledger) (a : ℕ) (f : List ℕ) where
   pub error-no-entry : (address status : ℕ) (results : List ℕ) (s : State) (d : List ℕ) → eqb status 0 ≡ false
       → Keeps p s d k → Entered p k a f (replied (p .bus) address (Reply status results) s d)
   error-no-entry address status results s d e i =
-      let none : (code : ℕ) → (eqb (commandOf (p .bus) f) code && eqb status 0) ≡ false = λ code. rw e (and-false (eqb (commandOf (p .bus) f) code)) in
+      let none : (code : ℕ) → (eqb (commandOf (p .bus) f) code && eqb status 0) ≡ false =
+      λ code. rw e (and-false (eqb (commandOf (p .bus) f) code)) in
       reply-no-entry address status results s d (none 0x06) (none 0x07) i
 
   pub other-no-entry : (address status : ℕ) (results : List ℕ) (s : State) (d : List ℕ)

@@ -1,5 +1,5 @@
--- Accepted writes one after the other, of bytes that flash has already: before the first of them all is committed, and from it on each begins where
--- the one before ended, so that by `Repeat` the ledger's copy and count stay.
+-- Accepted writes one after the other, of bytes that flash has already: before the first of them all is committed, and from it on each
+-- begins where the one before ended, so that by `Repeat` the ledger's copy and count stay.
 use mathlib.Core.Path.{_≡_, refl, sym, _∙_}
 use mathlib.Core.Bool.{Bool, true, false, cond, and-eq-true-iff}
 use mathlib.Core.List.{List, [], _∷_, _++_}
@@ -53,14 +53,16 @@ module _ (p : Profile) (D bs : List ℕ) (has : Has p D bs) where
   opened-repeats ys k copy e = record { copy-is = copy; count-is = refl; committed-le = le-refl _; bytes-are = e }
 
   -- bytes that join, and then pieces that follow
-  joined-follows : (xs : List ℕ) (ws : List Piece) (k : Ledger) → Repeats D bs (xs ++ joined ws) k → follow (length (k .accepted) + length xs) ws ≡ true
+  joined-follows : (xs : List ℕ) (ws : List Piece) (k : Ledger) → Repeats D bs (xs ++ joined ws) k
+      → follow (length (k .accepted) + length xs) ws ≡ true
       → Follows D bs ws (joinsAll p k xs)
   joined-follows xs ws k r e = record {
     repeats = joinsAll-repeats p D bs has xs (joined ws) k r;
     follows = rw (length-joinsAll p xs k) e;
   }
 
-  pub write-follows : (w : Piece) (ws : List Piece) (k : Ledger) → Follows D bs (w ∷ ws) k → Follows D bs ws (writes p k (w .address) (w .bytes))
+  pub write-follows : (w : Piece) (ws : List Piece) (k : Ledger) → Follows D bs (w ∷ ws) k
+      → Follows D bs ws (writes p k (w .address) (w .bytes))
   unfolding writes
   write-follows w ws k i = go (eqb (w .address) 0) refl
     where
@@ -70,16 +72,19 @@ module _ (p : Profile) (D bs : List ℕ) (has : Has p D bs) where
       go : (t : Bool) → eqb (w .address) 0 ≡ t → Follows D bs ws (joinsAll p (cond t (opened (k .copy)) k) (w .bytes))
       go true e =
           let none : k .accepted ≡ [] = length-none (k .accepted) (sym (eqb-true _ _ (both .0)) ∙ eqb-true _ _ e) in
-          joined-follows (w .bytes) ws (opened (k .copy)) (opened-repeats (joined (w ∷ ws)) k (i .repeats .copy-is) (rw none at (i .repeats .bytes-are)))
+          joined-follows (w .bytes) ws (opened (k .copy))
+          (opened-repeats (joined (w ∷ ws)) k (i .repeats .copy-is) (rw none at (i .repeats .bytes-are)))
           (rw none at (both .1))
       go false e = joined-follows (w .bytes) ws k (i .repeats) (both .1)
 
-  pub write-waits : (w : Piece) (ws : List Piece) (k : Ledger) → Waits D bs (w ∷ ws) k → Follows D bs ws (writes p k (w .address) (w .bytes))
+  pub write-waits : (w : Piece) (ws : List Piece) (k : Ledger) → Waits D bs (w ∷ ws) k
+      → Follows D bs ws (writes p k (w .address) (w .bytes))
   unfolding writes
   write-waits w ws k i =
       let both = and-eq-true-iff (eqb (w .address) 0) (follow (length (w .bytes)) ws) .0 (i .from-zero) in
       rw (both .0)
-      (joined-follows (w .bytes) ws (opened (k .copy)) (opened-repeats (joined (w ∷ ws)) k (i .copy-is) (i .bytes-are)) (rw zero-add (both .1)))
+      (joined-follows (w .bytes) ws (opened (k .copy)) (opened-repeats (joined (w ∷ ws)) k (i .copy-is) (i .bytes-are))
+      (rw zero-add (both .1)))
 
   pub finalizes-follows : (ws : List Piece) (k : Ledger) → Follows D bs ws k → Follows D bs ws (finalizes p k)
   finalizes-follows ws k i = record {

@@ -1,5 +1,5 @@
--- Bytes that flash has already, accepted once more: laying the first of them over it leaves it as it is, so no commit changes the copy and none
--- counts.
+-- Bytes that flash has already, accepted once more: laying the first of them over it leaves it as it is, so no commit changes the copy and
+-- none counts.
 use mathlib.Core.Path.{_≡_, refl, sym, ap, _∙_}
 use mathlib.Core.Bool.{Bool, true, false, cond}
 use mathlib.Core.List.{List, [], _∷_, _++_, append-assoc}
@@ -85,5 +85,6 @@ module _ (p : Profile) (D bs : List ℕ) (has : Has p D bs) where
     where
       go : (t : Bool) → Repeats D bs ys (cond t (commits p (finalCounted k)) k)
       go true =
-          commits-repeats ys (finalCounted k) (record { copy-is = r .copy-is; count-is = r .count-is; committed-le = r .committed-le; bytes-are = r .bytes-are })
+          commits-repeats ys (finalCounted k) (record
+          { copy-is = r .copy-is; count-is = r .count-is; committed-le = r .committed-le; bytes-are = r .bytes-are })
       go false = r

@@ -1,5 +1,5 @@
--- Write and finalize, to a board that is not running and by a call that is not refused: bytes and commits keep step by `ByteStep`, the ledger reads
--- the board's address and data by `FrameReading`, and a finalize's reply tells the ledger's count.
+-- Write and finalize, to a board that is not running and by a call that is not refused: bytes and commits keep step by `ByteStep`, the
+-- ledger reads the board's address and data by `FrameReading`, and a finalize's reply tells the ledger's count.
 use mathlib.Core.Path.{_≡_, refl, sym, ap, _∙_}
 use mathlib.Core.Bool.{Bool, true, false, cond, _&&_, _||_, false≢true, and-eq-true-iff}
 use mathlib.Core.List.{List, []}
@@ -30,7 +30,8 @@ pub record Serving (p : Profile) (s : State) (d : List ℕ) (k : Ledger) : Type 
   pub agrees : Agrees (record { upload = s .upload; flash = d }) k
   pub going : Going p k 0
 
-pub unrefused-serving : (p : Profile) (s : State) (d : List ℕ) (k : Ledger) (m : ℕ) → Unrefused p s (length d) m → s .running ≡ false → Keeps p s d k → Serving p s d k
+pub unrefused-serving : (p : Profile) (s : State) (d : List ℕ) (k : Ledger) (m : ℕ) → Unrefused p s (length d) m → s .running ≡ false
+    → Keeps p s d k → Serving p s d k
 unrefused-serving p s d k m h off i =
     let held : length (s .upload .waiting) ≡ length (rest k) = ap length (i .waiting-is off) in
     let page : 0 < p .page = omega (arith, h .profile .page-is) in
@@ -47,7 +48,8 @@ unrefused-serving p s d k m h off i =
     }
 
 -- what agrees and balances is kept, whatever else the state holds
-agrees-keeps : (p : Profile) (s : State) (g : Progress) (k : Ledger) → Agrees g k → Consistent p k → Keeps p (withUpload s (g .upload)) (g .flash) k
+agrees-keeps : (p : Profile) (s : State) (g : Progress) (k : Ledger) → Agrees g k → Consistent p k
+    → Keeps p (withUpload s (g .upload)) (g .flash) k
 agrees-keeps p s g k a b =
     record { balanced = b; flash-is = a .flash-is; count-is = a .count-is; next-is = a .next-is; waiting-is = λ off. a .waiting-is }
 
@@ -61,7 +63,8 @@ agrees-replied : (p : Profile) (s : State) (g : Progress) (k k′ : Ledger) (r :
 agrees-replied p s g k k′ r a b e = rw e (keeps-last (p .bus) p (withUpload s (g .upload)) (g .flash) k′ r (agrees-keeps p s g k′ a b))
 
 -- finalize
-pub finished-enters : (p : Profile) (s : State) (d : List ℕ) (k : Ledger) (a : ℕ) (f : List ℕ) (address : ℕ) → Serving p s d k → commandOf (p .bus) f ≡ 0x07
+pub finished-enters : (p : Profile) (s : State) (d : List ℕ) (k : Ledger) (a : ℕ) (f : List ℕ) (address : ℕ) → Serving p s d k
+    → commandOf (p .bus) f ≡ 0x07
     → Entered p k a f (finishedCall (p .bus) address (finished p s d))
 unfolding finished
 finished-enters p s d k a f address h code =
@@ -84,7 +87,8 @@ finished-enters p s d k a f address h code =
 -- write
 
 -- an accepted write begins anew at 0, and goes on at next
-begins-going : (p : Profile) (s : State) (d : List ℕ) (k : Ledger) (address n : ℕ) → Serving p s d k → accepted (p .size) (s .upload .next) address n ≡ true
+begins-going : (p : Profile) (s : State) (d : List ℕ) (k : Ledger) (address n : ℕ) → Serving p s d k
+    → accepted (p .size) (s .upload .next) address n ≡ true
     → Going p (cond (eqb address 0) (opened (k .copy)) k) n
 begins-going p s d k address n h e = go (eqb address 0) refl e
   where
@@ -114,23 +118,28 @@ begins-agrees p s d k address h = go (eqb address 0)
     go true = record { flash-is = h .agrees .flash-is; count-is = refl; next-is = refl; waiting-is = refl }
     go false = h .agrees
 
-module _ (p : Profile) (s : State) (d : List ℕ) (k : Ledger) (a : ℕ) (f : List ℕ) (to : ℕ) (h : Serving p s d k) (code : commandOf (p .bus) f ≡ 0x06) where
+module _ (p : Profile) (s : State) (d : List ℕ) (k : Ledger) (a : ℕ) (f : List ℕ) (to : ℕ) (h : Serving p s d k)
+    (code : commandOf (p .bus) f ≡ 0x06) where
   accepted-enters : (address : ℕ) (bytes : List ℕ) (g : Progress) → address ≡ writeAddress (p .bus) f → bytes ≡ writeData (p .bus) f
-      → g ≡ takenAll p (record { upload = restarted address (s .upload); flash = d }) bytes → accepted (p .size) (s .upload .next) address (length bytes) ≡ true
+      → g ≡ takenAll p (record { upload = restarted address (s .upload); flash = d }) bytes
+      → accepted (p .size) (s .upload .next) address (length bytes) ≡ true
       → Entered p k a f (replied (p .bus) to (Reply ok []) (withUpload s (g .upload)) (g .flash))
   unfolding writes
   accepted-enters address bytes g at what made e =
       let k′ : Ledger = cond (eqb address 0) (opened (k .copy)) k in
       let going = begins-going p s d k address (length bytes) h e in
-      let agrees : Agrees g (joinsAll p k′ bytes) = rw made (joinsAll-agrees p (h .pages) bytes _ k′ going (begins-agrees p s d k address h)) in
+      let agrees : Agrees g (joinsAll p k′ bytes) =
+      rw made (joinsAll-agrees p (h .pages) bytes _ k′ going (begins-agrees p s d k address h)) in
       let balanced = joinsAll-going p (h .pages) bytes k′ going .balanced in
-      let enters : entered p k a f 0 (reply (p .bus) to ok []) ≡ joinsAll p k′ bytes = entered-reply p k a f to ok [] ∙ rw (code, at, what) in
+      let enters : entered p k a f 0 (reply (p .bus) to ok []) ≡ joinsAll p k′ bytes =
+      entered-reply p k a f to ok [] ∙ rw (code, at, what) in
       record {
         keeps = agrees-replied p s g _ (joinsAll p k′ bytes) _ agrees balanced enters;
         closes = λ some. absurd (false≢true (sym (answered-reply (p .bus) 0x07 f to ok [] ∙ rw code) ∙ some));
       }
 
-  pub written-enters : 2 ≤ length (argumentsOf (p .bus) f) → Entered p k a f (finishedCall (p .bus) to (written p s (argumentsOf (p .bus) f) d))
+  pub written-enters : 2 ≤ length (argumentsOf (p .bus) f)
+      → Entered p k a f (finishedCall (p .bus) to (written p s (argumentsOf (p .bus) f) d))
   unfolding written
   written-enters long =
       let address : ℕ = numberAt (argumentsOf (p .bus) f) 0 in

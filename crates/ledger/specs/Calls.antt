@@ -52,7 +52,16 @@ fed p k (Read a n) number reply = enteredRead k
 
 module _ (B : Board) (p : Profile) where
   abbrev pub stepped : Ledger → Call → Reaction (B .Kept) → Step
-  stepped k c r = record { call = c; number = r .number; reply = r .reply; count = B .count (r .state); flash = r .flash; ledger = fed p k c (r .number) (r .reply) }
+  stepped k c r =
+      record {
+        call = c;
+        number = r .number;
+        reply = r .reply;
+        count = B .count (r .state);
+        flash = r .flash;
+        ledger =
+            fed p k c (r .number) (r .reply);
+      }
 
   -- each call takes state and flash from the one before
   unfoldable pub trace : B .Kept → List ℕ → Ledger → List Call → List Step

@@ -74,7 +74,8 @@ pub record Finished (p : Profile) (s : Step) : Type 0 where
   -- the n bytes stand in flash from zero on
   pub bytes-stand : (i : ℕ) → i < length (s .ledger .accepted) → getD (s .flash) (p .offset + i) 0 ≡ getD (s .ledger .accepted) i 0
   -- every other byte is as just before
-  pub others-kept : (i : ℕ) → (i < p .offset) ⊎ (p .offset + length (s .ledger .accepted) ≤ i) → getD (s .flash) i 0 ≡ getD (s .ledger .earlier) i 0
+  pub others-kept : (i : ℕ) → (i < p .offset) ⊎ (p .offset + length (s .ledger .accepted) ≤ i)
+      → getD (s .flash) i 0 ≡ getD (s .ledger .earlier) i 0
   pub length-kept : length (s .flash) ≡ length (s .ledger .earlier)
 
 -- what holds after every call

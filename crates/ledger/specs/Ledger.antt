@@ -1,5 +1,6 @@
 -- Document 01, "The plain book": an independent witness. It gets the profile, frames and their answers, but no state or flash of the board.
--- It shares no definition with the board: it reads frames at fixed offsets, knows the RS485 reset as its four bytes, and lays bytes in a way of its own.
+-- It shares no definition with the board: it reads frames at fixed offsets, knows the RS485 reset as its four bytes, and lays bytes in a
+-- way of its own.
 use mathlib.Core.Bool.{Bool, true, false, cond, _&&_, _||_, not}
 use mathlib.Core.List.{List, [], _∷_, _++_}
 use Prim.Native.Nat.{ℕ, _+_, _-_, _*_, _%_}
@@ -52,7 +53,15 @@ commits p k =
 -- one more accepted byte; the ledger commits when it completes a page
 unfoldable pub joins : Profile → Ledger → ℕ → Ledger
 joins p k b =
-    let more : Ledger = record { copy = k .copy; earlier = k .earlier; accepted = k .accepted ++ (b ∷ []); committed = k .committed; count = k .count; finals = k .finals } in
+    let more : Ledger =
+    record {
+      copy = k .copy;
+      earlier = k .earlier;
+      accepted = k .accepted ++ (b ∷ []);
+      committed = k .committed;
+      count = k .count;
+      finals = k .finals;
+    } in
     cond (eqb (length (more .accepted) % p .page) 0) (commits p more) more
 
 unfoldable pub joinsAll : Profile → Ledger → List ℕ → Ledger
@@ -67,7 +76,14 @@ writes p k address bytes = joinsAll p (cond (eqb address 0) (opened (k .copy)) k
 unfoldable pub finalizes : Profile → Ledger → Ledger
 finalizes p k =
     cond (ltb (k .committed) (length (k .accepted)))
-    (commits p (record { copy = k .copy; earlier = k .earlier; accepted = k .accepted; committed = k .committed; count = k .count; finals = k .finals + 1 }))
+    (commits p (record {
+      copy = k .copy;
+      earlier = k .earlier;
+      accepted = k .accepted;
+      committed = k .committed;
+      count = k .count;
+      finals = k .finals + 1;
+    }))
     k
 
 -- where things stand in the frames of a bus

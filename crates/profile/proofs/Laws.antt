@@ -1,5 +1,5 @@
--- What `refuse` tells its caller: `Passed`, that none of the numbers 2 to 5 applies; `Refused`, which of them does. Above that, what the crate's own
--- proofs share.
+-- What `refuse` tells its caller: `Passed`, that none of the numbers 2 to 5 applies; `Refused`, which of them does. Above that, what the
+-- crate's own proofs share.
 use mathlib.Core.Path.{_≡_, refl, sym, ap, _∙_}
 use mathlib.Core.Bool.{Bool, true, false, cond, not}
 use mathlib.Core.List.{List}

@@ -22,7 +22,8 @@ ghost use Rattle.response.specs.Done.{commandEffect, ruledCommand, Serving};
 // 0x00 version: results 2, 2.
 pub fn version(s: State, out: &mut [u8], at: usize) -> Done
     requires { ⌜ at + 2 ≤ length (now out) ⌝ }
-    ensures { λ r. ⌜ ((d : List ℕ) → commandEffect r d (now (out .exit)) ≡ ruledCommand (replying (view s) d ok (2 ∷ 2 ∷ [])) (now (out .entry)) at) ⌝ }
+    ensures { λ r. ⌜ ((d : List ℕ) → commandEffect r d (now (out .exit))
+        ≡ ruledCommand (replying (view s) d ok (2 ∷ 2 ∷ [])) (now (out .entry)) at) ⌝ }
 {
     reply(s, OK, &[2, 2], out, at)
 }
@@ -30,7 +31,8 @@ pub fn version(s: State, out: &mut [u8], at: usize) -> Done
 // 0x03 hardware info: type and compatible revision, bootloader version, two-byte S.
 pub fn hardware_info(p: Profile, s: State, out: &mut [u8], at: usize) -> Done
     requires { ⌜ (p .size ≤ 65535) × (at + 5 ≤ length (now out)) ⌝ }
-    ensures { λ r. ⌜ ((d : List ℕ) → commandEffect r d (now (out .exit)) ≡ ruledCommand (replying (view s) d ok (hardwareInfo (profileOf p))) (now (out .entry)) at) ⌝ }
+    ensures { λ r. ⌜ ((d : List ℕ) → commandEffect r d (now (out .exit))
+        ≡ ruledCommand (replying (view s) d ok (hardwareInfo (profileOf p))) (now (out .entry)) at) ⌝ }
 {
     let size = two_bytes(p.size);
     reply(
@@ -45,7 +47,8 @@ pub fn hardware_info(p: Profile, s: State, out: &mut [u8], at: usize) -> Done
 // 0x04: the serial's bytes, COMMAND_NOT_SUPPORTED if none.
 pub fn serial(p: Profile, s: State, out: &mut [u8], at: usize) -> Done
     requires { ⌜ (p .seriallen ≤ 16) × (at + 16 ≤ length (now out)) ⌝ }
-    ensures { λ r. ⌜ ((d : List ℕ) → commandEffect r d (now (out .exit)) ≡ ruledCommand (serialNumber (profileOf p) (view s) d) (now (out .entry)) at) ⌝ }
+    ensures { λ r. ⌜ ((d : List ℕ) → commandEffect r d (now (out .exit))
+        ≡ ruledCommand (serialNumber (profileOf p) (view s) d) (now (out .entry)) at) ⌝ }
 {
     let len = p.seriallen;
     if len == 0 {
@@ -58,7 +61,8 @@ pub fn serial(p: Profile, s: State, out: &mut [u8], at: usize) -> Done
 // 0x09 actual revision.
 pub fn revision(p: Profile, s: State, out: &mut [u8], at: usize) -> Done
     requires { ⌜ at + 1 ≤ length (now out) ⌝ }
-    ensures { λ r. ⌜ ((d : List ℕ) → commandEffect r d (now (out .exit)) ≡ ruledCommand (replying (view s) d ok (p .actual ∷ [])) (now (out .entry)) at) ⌝ }
+    ensures { λ r. ⌜ ((d : List ℕ) → commandEffect r d (now (out .exit))
+        ≡ ruledCommand (replying (view s) d ok (p .actual ∷ [])) (now (out .entry)) at) ⌝ }
 {
     reply(s, OK, &[p.actual], out, at)
 }
@@ -79,7 +83,8 @@ pub fn read(p: Profile, s: State, args: &[u8], flash: &[u8], out: &mut [u8], at:
     requires { ⌜ Serving p s (length (now flash)) (length (now out)) at ⌝ }
     requires { ⌜ length (now args) ≡ 3 ⌝ }
     ensures { λ r.
-        ⌜ commandEffect r (now (flash .entry)) (now (out .exit)) ≡ ruledCommand (shown (profileOf p) (view s) (now (args .entry)) (now (flash .entry))) (now (out .entry)) at ⌝ }
+        ⌜ commandEffect r (now (flash .entry)) (now (out .exit))
+        ≡ ruledCommand (shown (profileOf p) (view s) (now (args .entry)) (now (flash .entry))) (now (out .entry)) at ⌝ }
 {
     let address = wide(args[0]) * 256 + wide(args[1]);
     let n = wide(args[2]);

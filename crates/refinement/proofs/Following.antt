@@ -1,5 +1,5 @@
--- Calls of the code that follow a script up to a place, and what is left at its end: by the contracts what the rules say, and by the demands what the
--- ledger says.
+-- Calls of the code that follow a script up to a place, and what is left at its end: by the contracts what the rules say, and by the
+-- demands what the ledger says.
 use mathlib.Core.Path.{_≡_, refl, sym, ap, _∙_}
 use mathlib.Core.Bool.{true, false}
 use mathlib.Core.List.{List, [], _∷_}
@@ -19,7 +19,8 @@ use Rattle.profile.specs.declared.Profile.{Profile}
 use Rattle.profile.specs.View.{profileOf}
 use Rattle.answer.specs.Answered.{CallEffect}
 use Rattle.refinement.specs.Happened.{Happened, Promised, Ran, callWith, callOf, callsOf, stepOf, stepsFrom}
-use Rattle.refinement.specs.Script.{head, frameLength, whole, input, callsIn, stateAfter, flashAfter, Lent, bufferAfter, Remains, remains, remaining, ruledAll, ledgerAfter, Followed, Left}
+use Rattle.refinement.specs.Script.{head, frameLength, whole, input, callsIn, stateAfter, flashAfter, Lent, bufferAfter, Remains}
+use Rattle.refinement.specs.Script.{remains, remaining, ruledAll, ledgerAfter, Followed, Left}
 use Rattle.refinement.proofs.Observed.{ruledCall-calls}
 use Rattle.refinement.proofs.Meets.{code-meets-demands}
 use Rattle.refinement.proofs.Scripts.{callsIn-record, callsIn-end}
@@ -54,7 +55,8 @@ after-flash : (p : rules.Profile) (d : List ℕ) (k : Ledger) (hs : List Happene
 after-flash p d k [] same right = same
 after-flash p d k (h ∷ hs) same right = after-flash p (h .flash) (stepOf p k h .ledger) hs (right .0 .flash-is) (right .1)
 
-after-count : (p : rules.Profile) (s : State) (k : Ledger) (hs : List Happened) → s .upload .count ≡ k .count → Every (Right p) (stepsFrom p k hs)
+after-count : (p : rules.Profile) (s : State) (k : Ledger) (hs : List Happened) → s .upload .count ≡ k .count
+    → Every (Right p) (stepsFrom p k hs)
     → stateAfter s hs .upload .count ≡ ledgerAfter k (stepsFrom p k hs) .count
 after-count p s k [] same right = same
 after-count p s k (h ∷ hs) same right = after-count p (h .answer .state) (stepOf p k h .ledger) hs (right .0 .count-is) (right .1)
@@ -64,14 +66,16 @@ followed-left {p} {script} {d} {b} f =
     let met = code-meets-demands p zeroed d (f .happened) zeroed-fresh (f .ran) in
     let right = met .demand3 .each in
     let left = ran-remains p zeroed d b (f .happened) (f .ran) (f .lent) in
-    let begin = ap (λ (x : states.State). ruledAll p (record { state = x; flash = d; out = b }) (callsOf (f .happened))) (zeroed-fresh .viewed) in
+    let begin =
+    ap (λ (x : states.State). ruledAll p (record { state = x; flash = d; out = b }) (callsOf (f .happened))) (zeroed-fresh .viewed) in
     let order = ap (ruledAll p (record { state = states.fresh; flash = d; out = b })) (f .in-order) in
     record {
       as-ruled = rw (f .state-left, f .flash-left, f .buffer-left) at left ∙ begin ∙ order;
       followed = f;
       met = met;
       flash-is = sym (f .flash-left) ∙ after-flash (profileOf p) d (opened d) (f .happened) refl right;
-      count-is = ap (λ (x : State). x .upload .count) (sym (f .state-left)) ∙ after-count (profileOf p) zeroed (opened d) (f .happened) refl right;
+      count-is =
+          ap (λ (x : State). x .upload .count) (sym (f .state-left)) ∙ after-count (profileOf p) zeroed (opened d) (f .happened) refl right;
     }
 
 -- calls followed a script up to a place: whatever calls then follow its rest, the whole is followed
@@ -89,7 +93,15 @@ module _ (p : Profile) (script d b : List ℕ) where
     flash-length = refl;
     buffer-length = refl;
     leads = λ rest order ran lent.
-        record { happened = rest; in-order = order; ran = rw all at ran; lent = lent; state-left = rw all; flash-left = refl; buffer-left = refl };
+        record {
+          happened = rest;
+          in-order = order;
+          ran = rw all at ran;
+          lent = lent;
+          state-left = rw all;
+          flash-left = refl;
+          buffer-left = refl;
+        };
   }
 
   module _ {at : ℕ} {s : State} {e o : List ℕ} (before : Reached p script d b at s e o) where
@@ -105,7 +117,8 @@ module _ (p : Profile) (script d b : List ℕ) where
           buffer-length = same ∙ before .buffer-length;
           leads = λ rest order ran more.
               let first : callOf h ≡ callWith (input bytes) (length b) = rw (for, lent, before .buffer-length) in
-              before .leads (h ∷ rest) (cc (callsIn-record (length b) bytes is, drop-drop (head + frameLength bytes) at script)) (done, ran) (lent, more);
+              before .leads (h ∷ rest) (cc (callsIn-record (length b) bytes is, drop-drop (head + frameLength bytes) at script))
+              (done, ran) (lent, more);
         }
 
     pub reached-end : whole (drop at script) ≡ false → Left p script d b s e o

@@ -1,5 +1,5 @@
--- Demand 1 of the code: what the rules hand back untouched (`refused-untouched`, `ignored-frames`) is, by the contract's equation, what the code left;
--- of the very state, bytes that mean nothing too, by the contract's own word.
+-- Demand 1 of the code: what the rules hand back untouched (`refused-untouched`, `ignored-frames`) is, by the contract's equation, what the
+-- code left; of the very state, bytes that mean nothing too, by the contract's own word.
 use mathlib.Core.Path.{_≡_, ap, _∙_}
 use mathlib.Core.List.{List, [], _∷_}
 use Prim.Native.Nat.{ℕ, _≤_}

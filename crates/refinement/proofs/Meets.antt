@@ -1,5 +1,5 @@
--- The demands of the code: what is written down of it is what the board of the rules does (`Observed`), of which `demand2` and `demand3` are proved;
--- demand 1 by `Kept`.
+-- The demands of the code: what is written down of it is what the board of the rules does (`Observed`), of which `demand2` and `demand3`
+-- are proved; demand 1 by `Kept`.
 use mathlib.Core.Path.{ap, _∙_}
 use Rattle.rules.specs.State as rules
 use Rattle.ledger.specs.Ledger.{opened}

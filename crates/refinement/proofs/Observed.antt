@@ -1,5 +1,5 @@
--- What is written down of the code is what the board of the rules does: the contract equates all that is seen of a call with what the rules say, and
--- a reply laid over the lent buffer is its first bytes (`take-laid`); so by induction over the list.
+-- What is written down of the code is what the board of the rules does: the contract equates all that is seen of a call with what the rules
+-- say, and a reply laid over the lent buffer is its first bytes (`take-laid`); so by induction over the list.
 use mathlib.Core.Path.{_≡_, refl, ap, _∙_}
 use mathlib.Core.List.{List, [], _∷_}
 use Prim.Native.Nat.{ℕ}
@@ -15,7 +15,8 @@ use Rattle.state.specs.View.{view}
 use Rattle.profile.specs.declared.Profile.{Profile}
 use Rattle.profile.specs.View.{profileOf}
 use Rattle.answer.specs.Answered.{CallEffect, expectedEffect}
-use Rattle.refinement.specs.Happened.{CallInput, Receive, Read, Happened, ruledCall, Promised, Ran, callWith, callOf, callsOf, stepOf, stepsFrom}
+use Rattle.refinement.specs.Happened.{CallInput, Receive, Read, Happened, ruledCall, Promised, Ran, callWith, callOf, callsOf, stepOf}
+use Rattle.refinement.specs.Happened.{stepsFrom}
 
 -- what is written down of what is seen of a call
 abbrev written : rules.Profile → Ledger → Call → CallEffect → Step
@@ -28,7 +29,8 @@ written p k c x = record {
   ledger = fed p k c (x .number) (take (x .made) (x .out));
 }
 
-written-expected : (p : rules.Profile) (k : Ledger) (c : Call) (x : Called) (before : List ℕ) → written p k c (expectedEffect x before) ≡ stepped ruled p k c (reaction x)
+written-expected : (p : rules.Profile) (k : Ledger) (c : Call) (x : Called) (before : List ℕ)
+    → written p k c (expectedEffect x before) ≡ stepped ruled p k c (reaction x)
 written-expected p k c x before = rw (take-laid (x .reply) before (length (x .reply)) refl)
 
 -- what the rules say is what their board does

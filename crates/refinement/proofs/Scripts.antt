@@ -14,7 +14,8 @@ use Rattle.refinement.specs.Happened.{callWith}
 use Rattle.refinement.specs.Script.{head, inputBy, frameLength, whole, input, callsOfRecords, callsIn}
 
 -- any bound on the number of records will do that is at least the number of bytes
-callsOfRecords-enough : (n m k : ℕ) (bytes : List ℕ) → length bytes ≤ m → length bytes ≤ k → callsOfRecords n m bytes ≡ callsOfRecords n k bytes
+callsOfRecords-enough : (n m k : ℕ) (bytes : List ℕ) → length bytes ≤ m → length bytes ≤ k
+    → callsOfRecords n m bytes ≡ callsOfRecords n k bytes
 unfolding callsOfRecords
 callsOfRecords-enough n zero zero bytes within within′ = refl
 callsOfRecords-enough n zero (suc k) bytes within within′ = rw (lt-leb (head + frameLength bytes) (length bytes) (omega arith))
@@ -33,7 +34,8 @@ module _ (n : ℕ) (bytes : List ℕ) where
       let rest : List ℕ = drop (head + frameLength bytes) bytes in
       let shorter : length rest ≡ length bytes - (head + frameLength bytes) = length-drop (head + frameLength bytes) bytes in
       callsOfRecords-enough n (length bytes) (suc (length bytes)) bytes (omega arith) (omega arith)
-      ∙ rw e (ap (λ (cs : List Call). callWith (input bytes) n ∷ cs) (callsOfRecords-enough n (length bytes) (length rest) rest (omega arith) (omega arith)))
+      ∙ rw e (ap (λ (cs : List Call). callWith (input bytes) n ∷ cs)
+      (callsOfRecords-enough n (length bytes) (length rest) rest (omega arith) (omega arith)))
 
   pub callsIn-end : whole bytes ≡ false → callsIn n bytes ≡ []
   unfolding callsOfRecords
@@ -41,5 +43,6 @@ module _ (n : ℕ) (bytes : List ℕ) where
 
 -- the record at a place of a script
 pub input-at : (script : List ℕ) (at : ℕ)
-    → inputBy (getD script at 0) (getD script (at + 1) 0) (take (frameLength (drop at script)) (drop (at + head) script)) ≡ input (drop at script)
+    → inputBy (getD script at 0) (getD script (at + 1) 0) (take (frameLength (drop at script)) (drop (at + head) script))
+    ≡ input (drop at script)
 input-at script at = simp (getD-drop, drop-drop, add-zero)

@@ -40,7 +40,8 @@ pub record Met (p : Profile) (s : State) (d : List ℕ) (hs : List Happened) : T
   pub as-ruled : stepsOf p d hs ≡ traced ruled (profileOf p) d (callsOf hs)
   pub demand1 : AllKept p s d hs
   -- where numbers 2 and 3 do not apply
-  pub demand2 : inRange (profileOf p) ≡ true → p .offset + p .size ≤ length d → AllRight (profileOf p) initialPast d (s .upload .count) (stepsOf p d hs)
+  pub demand2 : inRange (profileOf p) ≡ true → p .offset + p .size ≤ length d
+      → AllRight (profileOf p) initialPast d (s .upload .count) (stepsOf p d hs)
   pub demand3 : Holds (profileOf p) (stepsOf p d hs)
 
 -- every list of calls of the code from the fresh board with any flash, under any one profile

@@ -38,7 +38,8 @@ input bytes = inputBy (getD bytes 0 0) (getD bytes 1 0) (take (frameLength bytes
 -- the calls of at most so many records, each with a reply buffer of n bytes; what is not a whole record ends a script
 unfoldable pub callsOfRecords : ℕ → ℕ → List ℕ → List Call
 callsOfRecords n zero bytes = []
-callsOfRecords n (suc most) bytes = cond (whole bytes) (callWith (input bytes) n ∷ callsOfRecords n most (drop (head + frameLength bytes) bytes)) []
+callsOfRecords n (suc most) bytes =
+    cond (whole bytes) (callWith (input bytes) n ∷ callsOfRecords n most (drop (head + frameLength bytes) bytes)) []
 
 -- the calls of a script: there are no more records in it than bytes
 abbrev pub callsIn : ℕ → List ℕ → List Call
@@ -86,7 +87,8 @@ abbrev pub ledgerAfter : Ledger → List Step → Ledger
 ledgerAfter k [] = k
 ledgerAfter k (s ∷ ss) = ledgerAfter (s .ledger) ss
 
--- calls of the code on the fresh board, in the order of a script, from the flash d and the buffer b to the state s, the flash e and the buffer o
+-- calls of the code on the fresh board, in the order of a script, from the flash d and the buffer b to the state s, the flash e and the
+-- buffer o
 pub record Followed (p : Profile) (script d b : List ℕ) (s : State) (e o : List ℕ) : Type 0 where
   pub happened : List Happened
   pub in-order : callsOf happened ≡ callsIn (length b) script

@@ -34,7 +34,15 @@ makes-part n out more last r fits e l =
     record {
       length-is = sym (long ∙ ap (λ (k : ℕ). n + k) (sym e));
       output-is =
-          rw (l, take-length more, take-all (length out - n) (drop n out) left, drop-of-length-le (drop n out) left, append-nil, drop-drop (length more) n out, long)
+          rw (
+            l,
+            take-length more,
+            take-all (length out - n) (drop n out) left,
+            drop-of-length-le (drop n out) left,
+            append-nil,
+            drop-drop (length more) n out,
+            long,
+          )
           (sym (append-assoc (take n out) more (drop (n + length more) out)));
     }
 

@@ -42,8 +42,10 @@ pub(crate) fn write_command(
     second: &[u8],
     out: &mut [u8],
 ) -> usize
-    requires { ⌜ (destination < 256) × (code < 256) × (shortestRequest bus + length (now first) + length (now second) ≤ length (now out)) ⌝ }
-    ensures { λ r. ⌜ Makes (request bus destination code (now (first .entry) ++ now (second .entry))) (now (out .entry)) (now (out .exit)) r ⌝ }
+    requires { ⌜ (destination < 256) × (code < 256)
+        × (shortestRequest bus + length (now first) + length (now second) ≤ length (now out)) ⌝ }
+    ensures { λ r. ⌜ Makes (request bus destination code (now (first .entry) ++ now (second .entry))) (now (out .entry))
+        (now (out .exit)) r ⌝ }
 {
     let front = write_front(bus, destination, code, out);
     let more = append(out, front, first);

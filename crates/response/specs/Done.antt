@@ -38,9 +38,10 @@ resultsIn NoReply out at = out
 
 -- what the rules say of a command, with its results laid over the buffer from a place on
 abbrev pub ruledCommand : Acted → List ℕ → ℕ → CommandEffect
-ruledCommand a out at = record { response = counted (a .response); state = a .state; flash = a .flash; out = resultsIn (a .response) out at }
+ruledCommand a out at =
+    record { response = counted (a .response); state = a .state; flash = a .flash; out = resultsIn (a .response) out at }
 
 -- what a command function asks: none of the numbers 2 to 5 applies, and results begin behind the header, the status and their count
 pub record Serving (p : Profile) (s : State) (flashLength bufferLength at : ℕ) : Type 0 where
-  pub sound : laws.Unrefused (profileOf p) (view s) flashLength bufferLength
+  pub unrefused : laws.Unrefused (profileOf p) (view s) flashLength bufferLength
   pub at-is : at ≡ headerLength (p .bus) + 2

@@ -35,7 +35,8 @@ pub const INVALID_ARGUMENTS: u8 = 5;
 pub fn reply(s: State, status: u8, results: &[u8], out: &mut [u8], at: usize) -> Done
     requires { ⌜ at + length (now results) ≤ length (now out) ⌝ }
     ensures { λ r.
-        ⌜ ((d : List ℕ) → commandEffect r d (now (out .exit)) ≡ ruledCommand (replying (view s) d status (now (results .entry))) (now (out .entry)) at) ⌝ }
+        ⌜ ((d : List ℕ) → commandEffect r d (now (out .exit))
+        ≡ ruledCommand (replying (view s) d status (now (results .entry))) (now (out .entry)) at) ⌝ }
 {
     let count = results.len();
     flash::store(out, at, results);
@@ -56,7 +57,8 @@ pub fn two_bytes(n: usize) -> [u8; 2]
 // A status and a number of two bytes.
 pub fn reply_number(s: State, n: usize, out: &mut [u8], at: usize) -> Done
     requires { ⌜ (n ≤ 65535) × (at + 2 ≤ length (now out)) ⌝ }
-    ensures { λ r. ⌜ ((d : List ℕ) → commandEffect r d (now (out .exit)) ≡ ruledCommand (replying (view s) d ok (twoBytes n)) (now (out .entry)) at) ⌝ }
+    ensures { λ r. ⌜ ((d : List ℕ) → commandEffect r d (now (out .exit))
+        ≡ ruledCommand (replying (view s) d ok (twoBytes n)) (now (out .entry)) at) ⌝ }
 {
     let bytes = two_bytes(n);
     reply(s, OK, &bytes, out, at)

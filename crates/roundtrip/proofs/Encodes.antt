@@ -1,5 +1,5 @@
--- The encoder makes the requests of an upload: writes of allowed lengths, the finalize, and reads of allowed lengths, to an address that the board
--- hears.
+-- The encoder makes the requests of an upload: writes of allowed lengths, the finalize, and reads of allowed lengths, to an address that
+-- the board hears.
 use mathlib.Core.Path.{_≡_, refl}
 use mathlib.Core.Bool.{true, false, not, _&&_, and-eq-true-iff}
 use mathlib.Core.List.{List, [], _∷_, _++_}
@@ -46,11 +46,12 @@ encoded-zero b M r to bytes room least most right fits =
     rw (le-leb 32 M least, le-leb M 256 most, right, le-ltb room (length (requestBytes b r to bytes)) fits)
 
 module _ (l : Line) (b : Board) (ready : Ready l b) where
-  sound : Unrefused (l .profile) (b .state) (length (b .flash)) (l .buffer)
-  sound = refusal-unrefused (l .profile) (b .state) (length (b .flash)) (l .buffer) (ready .none-refused)
+  unrefused : Unrefused (l .profile) (b .state) (length (b .flash)) (l .buffer)
+  unrefused = refusal-unrefused (l .profile) (b .state) (length (b .flash)) (l .buffer) (ready .none-refused)
 
   -- a command with n argument bytes
-  command-right : (code n : ℕ) → served code ≡ true → lengthAllowed code n ≡ true → shortestRequest (l .profile .bus) + n ≤ l .profile .longest
+  command-right : (code n : ℕ) → served code ≡ true → lengthAllowed code n ≡ true
+      → shortestRequest (l .profile .bus) + n ≤ l .profile .longest
       → commandWrong (l .profile .bus) (l .profile .longest) (l .to) code n ≡ false
   unfolding commandWrong
   command-right code n row long fits =
@@ -70,13 +71,13 @@ module _ (l : Line) (b : Board) (ready : Ready l b) where
         let M : ℕ = l .profile .longest in
         let n : ℕ = length bytes in
         let bounds = shortestRequest-within (l .profile .bus) in
-        let range = sound .profile in
+        let range = unrefused .profile in
         let fits : shortestRequest (l .profile .bus) + (2 + n) ≤ M = omega (arith, bounds .0, bounds .1, range .longest-least) in
         let allowed : lengthAllowed 0x06 (2 + n) ≡ true =
         rw (le-leb 2 (2 + n) (omega arith), le-leb (2 + n) 254 (omega (arith, bounds .0, range .longest-most))) in
         encoded-zero (l .profile .bus) M (Write at) (l .to) bytes (l .buffer) (range .longest-least) (range .longest-most)
         (rw (command-right 0x06 (2 + n) refl allowed fits, le-ltb 65535 at address))
-        (omega (arith, length-request (l .profile .bus) (l .to) 0x06 (twoBytes at ++ bytes), sound .buffer-holds))
+        (omega (arith, length-request (l .profile .bus) (l .to) 0x06 (twoBytes at ++ bytes), unrefused .buffer-holds))
 
     pub read-made : (n : ℕ) → n ≤ resultsMost (l .profile .bus) (l .profile .longest)
         → encoding (sending l b (record { request = Read at n; bytes = [] })) .number ≡ 0
@@ -84,18 +85,18 @@ module _ (l : Line) (b : Board) (ready : Ready l b) where
     read-made n most =
         let M : ℕ = l .profile .longest in
         let bounds = shortestRequest-within (l .profile .bus) in
-        let range = sound .profile in
+        let range = unrefused .profile in
         let fits : shortestRequest (l .profile .bus) + 3 ≤ M = omega (arith, bounds .1, range .longest-least) in
         encoded-zero (l .profile .bus) M (Read at n) (l .to) [] (l .buffer) (range .longest-least) (range .longest-most)
         (rw (command-right 0x08 3 refl refl fits, le-ltb 65535 at address, le-ltb (M - shortestReply (l .profile .bus)) n most))
-        (omega (arith, length-request (l .profile .bus) (l .to) 0x08 (twoBytes at ++ n ∷ []), sound .buffer-holds))
+        (omega (arith, length-request (l .profile .bus) (l .to) 0x08 (twoBytes at ++ n ∷ []), unrefused .buffer-holds))
 
   pub finalize-made : encoding (sending l b finalize) .number ≡ 0
   unfolding argumentWrong requestBytes tabled
   finalize-made =
       let M : ℕ = l .profile .longest in
       let bounds = shortestRequest-within (l .profile .bus) in
-      let range = sound .profile in
+      let range = unrefused .profile in
       encoded-zero (l .profile .bus) M (Plain 0x07) (l .to) [] (l .buffer) (range .longest-least) (range .longest-most)
       (command-right 0x07 0 refl refl (omega (arith, bounds .1, range .longest-least)))
-      (omega (arith, length-request (l .profile .bus) (l .to) 0x07 [], sound .buffer-holds, bounds .1, range .longest-least))
+      (omega (arith, length-request (l .profile .bus) (l .to) 0x07 [], unrefused .buffer-holds, bounds .1, range .longest-least))

@@ -1,5 +1,5 @@
--- One request and its answer, as a talk has them: a command that says OK and keeps the address is answered OK with its results, and leaves the board
--- ready for the next. By the statements on requests and replies; on I²C the answer is read at the same address.
+-- One request and its answer, as a talk has them: a command that says OK and keeps the address is answered OK with its results, and leaves
+-- the board ready for the next. By the statements on requests and replies; on I²C the answer is read at the same address.
 use mathlib.Core.Path.{_≡_, refl, sym, subst, _∙_}
 use mathlib.Core.Bool.{true}
 use mathlib.Core.List.{List}
@@ -14,7 +14,8 @@ use Rattle.rules.specs.Commands.{Reply, Acted, withUpload, performed, ok}
 use Rattle.rules.specs.Board.{withLast}
 use Rattle.laws.proofs.StateLaws.{Unrefused, refusal-unrefused, unrefused-refusal}
 use Rattle.laws.proofs.BoardLaws.{FormedCall, received-formed-call, withLast-upload}
-use Rattle.roundtrip.specs.Sending.{Sending, Instruction, Commands, Given, Beside, AddressedBy, target, bus, encoding, frame, call, instruction}
+use Rattle.roundtrip.specs.Sending.{Sending, Instruction, Commands, Given, Beside, AddressedBy, target, bus, encoding, frame, call}
+use Rattle.roundtrip.specs.Sending.{instruction}
 use Rattle.roundtrip.specs.Understood.{TakenAs, Understood}
 use Rattle.roundtrip.specs.ReadBack.{Answered, ResponseRead, Replied}
 use Rattle.roundtrip.specs.Exchanges.{Line, Board, Ready, Message, sending, fetched, answer, after, codeSent, lengthSent, results, Ok}
@@ -40,15 +41,17 @@ module _ (l : Line) (b : Board) (ready : Ready l b) (m : Message) where
   abbrev code : ℕ
   code = codeSent (m .request)
 
-  sound : Unrefused (l .profile) (b .state) (length (b .flash)) (l .buffer)
-  sound = refusal-unrefused (l .profile) (b .state) (length (b .flash)) (l .buffer) (ready .none-refused)
+  unrefused : Unrefused (l .profile) (b .state) (length (b .flash)) (l .buffer)
+  unrefused = refusal-unrefused (l .profile) (b .state) (length (b .flash)) (l .buffer) (ready .none-refused)
 
   orderly : FormedCall (l .profile) (b .flash) (call x)
-  orderly = received-formed-call (l .profile) (b .state) (b .flash) (l .to) (frame x) (l .buffer) (sound .well-formed)
+  orderly = received-formed-call (l .profile) (b .state) (b .flash) (l .to) (frame x) (l .buffer) (unrefused .well-formed)
 
   module _ (arguments said : List ℕ) (u : Upload) (d : List ℕ) (made : encoding x .number ≡ 0) (taken : TakenAs x code arguments)
-      (replying : ResponseRead x code arguments (lengthSent (m .request)) (performed (l .profile) (b .state) code arguments (b .flash) .response))
-      (acts : performed (l .profile) (b .state) code arguments (b .flash) ≡ record { response = Reply ok said; state = withUpload (b .state) u; flash = d }) where
+      (replying : ResponseRead x code arguments (lengthSent (m .request))
+      (performed (l .profile) (b .state) code arguments (b .flash) .response))
+      (acts : performed (l .profile) (b .state) code arguments (b .flash)
+      ≡ record { response = Reply ok said; state = withUpload (b .state) u; flash = d }) where
     answered : Answered x code arguments (lengthSent (m .request)) ok said
     answered = subst (λ (a : Acted). ResponseRead x code arguments (lengthSent (m .request)) (a .response)) acts replying
 
@@ -63,7 +66,8 @@ module _ (l : Line) (b : Board) (ready : Ready l b) (m : Message) where
 
     fetched-call : (k : Bus) → bus x ≡ k → fetched k x ≡ call x
     fetched-call I2c i =
-        answered .read-out i .read (l .to) (l .buffer) (subst (λ (k : Bus). addressed k (call x .state .address) (l .to) ≡ true) i addressed-next) (sound .buffer-holds)
+        answered .read-out i .read (l .to) (l .buffer)
+        (subst (λ (k : Bus). addressed k (call x .state .address) (l .to) ≡ true) i addressed-next) (unrefused .buffer-holds)
     fetched-call Rs485 i = refl
 
     answer-call : answer x ≡ call x
@@ -73,8 +77,8 @@ module _ (l : Line) (b : Board) (ready : Ready l b) (m : Message) where
     left-ready = record {
       none-refused =
           rw answer-call
-          (unrefused-refusal (l .profile) (call x .state) (length (call x .flash)) (l .buffer) (sound .in-range) (orderly .well-formed)
-          (omega (arith, sound .flash-holds, orderly .flash-length)) (sound .buffer-holds));
+          (unrefused-refusal (l .profile) (call x .state) (length (call x .flash)) (l .buffer) (unrefused .in-range) (orderly .well-formed)
+          (omega (arith, unrefused .flash-holds, orderly .flash-length)) (unrefused .buffer-holds));
       stopped = rw (answer-call, called, withLast-running (bus x) (withUpload (b .state) u) sent) (ready .stopped);
       heard = rw answer-call addressed-next;
       byte = ready .byte;
@@ -82,7 +86,13 @@ module _ (l : Line) (b : Board) (ready : Ready l b) (m : Message) where
 
     exchanged : Exchanged l x u d said
     exchanged = record {
-      answered-ok = record { made = made; decodes = rw (answer-call, answered .reads .decoding-is); status-ok = rw (answer-call, answered .reads .decoding-is) };
+      answered-ok =
+          record {
+            made = made;
+            decodes = rw (answer-call, answered .reads .decoding-is);
+            status-ok =
+                rw (answer-call, answered .reads .decoding-is);
+          };
       results-are = rw answer-call (answered .reads .results-are);
       upload-is = rw (answer-call, called) (withLast-upload (bus x) (withUpload (b .state) u) sent);
       flash-is = rw (answer-call, called);
@@ -100,7 +110,8 @@ module _ (l : Line) (b : Board) (ready : Ready l b) (m : Message) where
   -- a command that says OK, and keeps address and running
   pub exchange : (arguments said : List ℕ) (u : Upload) (d : List ℕ) → encoding x .number ≡ 0 → instruction x ≡ Commands code arguments
       → (code ≡ 0x08 → lengthSent (m .request) ≡ getD arguments 2 0)
-      → performed (l .profile) (b .state) code arguments (b .flash) ≡ record { response = Reply ok said; state = withUpload (b .state) u; flash = d }
+      → performed (l .profile) (b .state) code arguments (b .flash)
+      ≡ record { response = Reply ok said; state = withUpload (b .state) u; flash = d }
       → Exchanged l x u d said
   exchange arguments said u d made is read-length acts =
       let all : Given x = given made arguments is in

@@ -26,13 +26,17 @@ pub encoded-made : (bus : Bus) (M : ℕ) (r : Request) (to : ℕ) (bytes : List 
     → Made bus M r to bytes room
 unfolding encoded
 encoded-made bus M r to bytes room e =
-    let parts = go (frameInRange M) (argumentWrong bus M r to (length bytes)) (ltb room (length (requestBytes bus r to bytes))) (requestBytes bus r to bytes) e in
+    let parts =
+    go (frameInRange M) (argumentWrong bus M r to (length bytes)) (ltb room (length (requestBytes bus r to bytes)))
+    (requestBytes bus r to bytes) e in
     record { bytes-are = parts .0; argument-right = parts .1 }
   where
     answer : Bool → Bool → Bool → List ℕ → Encoding
-    answer range wrong short made = cond (not range) (unmade 2) (cond wrong (unmade 7) (cond short (unmade 6) (record { number = 0; bytes = made })))
+    answer range wrong short made =
+        cond (not range) (unmade 2) (cond wrong (unmade 7) (cond short (unmade 6) (record { number = 0; bytes = made })))
 
-    go : (range wrong short : Bool) (made : List ℕ) → answer range wrong short made .number ≡ 0 → (answer range wrong short made .bytes ≡ made) × (wrong ≡ false)
+    go : (range wrong short : Bool) (made : List ℕ) → answer range wrong short made .number ≡ 0
+        → (answer range wrong short made .bytes ≡ made) × (wrong ≡ false)
     go false wrong short made z = absurd (omega arith)
     go true true short made z = absurd (omega arith)
     go true false true made z = absurd (omega arith)

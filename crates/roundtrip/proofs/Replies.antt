@@ -1,5 +1,5 @@
--- Every reply is read. The call is the command's own (`Requests`), what it says fits the decoder (`Responded`), and the decoder finds in a whole reply just
--- its status and results (`FrameLaws`). On I²C the reply is the last reply of the state that the call leaves.
+-- Every reply is read. The call is the command's own (`Requests`), what it says fits the decoder (`Responded`), and the decoder finds in a
+-- whole reply just its status and results (`FrameLaws`). On I²C the reply is the last reply of the state that the call leaves.
 use mathlib.Core.Path.{_≡_, refl, sym, ap, subst, _∙_}
 use mathlib.Core.Bool.{true, false, _||_}
 use mathlib.Core.List.{List, [], _++_, append-nil}
@@ -24,7 +24,8 @@ use Rattle.laws.proofs.StateLaws.{Unrefused, refusal-unrefused, unrefused-refus
 use Rattle.laws.proofs.CommandLaws.{length-reply}
 use Rattle.laws.proofs.BoardLaws.{FormedCall, received-formed-call}
 use Rattle.laws.proofs.FrameLaws.{Ends, decoded-reply, results-reply}
-use Rattle.roundtrip.specs.Sending.{Sending, Instruction, Commands, AddressReset, BoardReset, Given, AddressedBy, bus, frame, call, instruction}
+use Rattle.roundtrip.specs.Sending.{Sending, Instruction, Commands, AddressReset, BoardReset, Given, AddressedBy, bus, frame, call}
+use Rattle.roundtrip.specs.Sending.{instruction}
 use Rattle.roundtrip.specs.Understood.{TakenAs, Understood}
 use Rattle.roundtrip.specs.ReadBack.{ReadsAs, TwoReads, addressedNext, ReadOut, ResponseRead, Replied, RepliesRead}
 use Rattle.roundtrip.proofs.Made.{Allowed}
@@ -48,7 +49,8 @@ shortest Rs485 = omega arith
 
 -- of two reads the first that decodes
 module _ (code asked : ℕ) (first second : List ℕ) (results : List ℕ) where
-  first-read : decodedRead code asked first .number ≡ 0 → resultsIn (decodedRead code asked first) first ≡ results → TwoReads code asked first second 1 results
+  first-read : decodedRead code asked first .number ≡ 0 → resultsIn (decodedRead code asked first) first ≡ results
+      → TwoReads code asked first second 1 results
   unfolding whichRead resultBytes
   first-read e r = record { which-is = rw (eq-eqb _ _ e); results-are = rw (eq-eqb _ _ e) r }
 
@@ -78,7 +80,8 @@ withLast-address Rs485 s r = refl
 
 -- a call that replied on I²C is what a read at an address heard afterwards gives
 read-again : (p : Profile) (c : Called) (address buffer : ℕ) → p .bus ≡ I2c → refusal p (c .state) (length (c .flash)) buffer ≡ 0
-    → c .state .running ≡ false → addressed I2c (c .state .address) address ≡ true → c .state .last ≡ c .reply → (length (c .reply) ≡ 0 → ⊥) → c .number ≡ 0
+    → c .state .running ≡ false → addressed I2c (c .state .address) address ≡ true → c .state .last ≡ c .reply
+    → (length (c .reply) ≡ 0 → ⊥) → c .number ≡ 0
     → readOut p (c .state) address (c .flash) buffer ≡ c
 unfolding readOut
 read-again p c address buffer i none stopped heard last some number =
@@ -97,7 +100,8 @@ taken-addressed I2c a over some =
 taken-addressed Rs485 a over some = rw (ne-eqb a 0 some, eq-eqb a a refl)
 
 -- a set address that replies has taken the address
-setAddress-taken : (p : Profile) (s : State) (args d : List ℕ) (status : ℕ) (results : List ℕ) → setAddress p s args d .response ≡ Reply status results
+setAddress-taken : (p : Profile) (s : State) (args d : List ℕ) (status : ℕ) (results : List ℕ)
+    → setAddress p s args d .response ≡ Reply status results
     → setAddress p s args d .state .address ≡ Own (addressTaken (p .bus) (getD args 0 0))
 unfolding setAddress
 setAddress-taken p s args d status results said =
@@ -111,11 +115,11 @@ module _ (x : Sending) (given : Given x) (code : ℕ) (arguments : List ℕ) (ta
   abbrev act : Acted
   act = performed (x .profile) (x .state) code arguments (x .flash)
 
-  sound : Unrefused (x .profile) (x .state) (length (x .flash)) (x .buffer)
-  sound = refusal-unrefused (x .profile) (x .state) (length (x .flash)) (x .buffer) (given .none-refused)
+  unrefused : Unrefused (x .profile) (x .state) (length (x .flash)) (x .buffer)
+  unrefused = refusal-unrefused (x .profile) (x .state) (length (x .flash)) (x .buffer) (given .none-refused)
 
   left-formed-call : FormedCall (x .profile) (x .flash) (call x)
-  left-formed-call = received-formed-call (x .profile) (x .state) (x .flash) (x .beside) (frame x) (x .buffer) (sound .well-formed)
+  left-formed-call = received-formed-call (x .profile) (x .state) (x .flash) (x .beside) (frame x) (x .buffer) (unrefused .well-formed)
 
   module _ (asked status : ℕ) (results : List ℕ) (said : act .response ≡ Reply status results) where
     abbrev made : List ℕ
@@ -127,7 +131,8 @@ module _ (x : Sending) (given : Given x) (code : ℕ) (arguments : List ℕ) (ta
     reply-is : call x .reply ≡ made
     reply-is = ap (λ (c : Called). c .reply) called
 
-    module _ (row : served code ≡ true) (stopped : x .state .running ≡ false) (responding : Responding (x .state) code asked act status results) where
+    module _ (row : served code ≡ true) (stopped : x .state .running ≡ false)
+        (responding : Responding (x .state) code asked act status results) where
       reads-whole : ReadsAs (bus x) code (x .to) asked (call x .reply) status results
       reads-whole =
           let more : ReadsAs (bus x) code (x .to) asked (made ++ []) status results =
@@ -148,25 +153,32 @@ module _ (x : Sending) (given : Given x) (code : ℕ) (arguments : List ℕ) (ta
 
       read-out : bus x ≡ I2c → ReadOut x code asked status results
       read-out i =
-          let reply-i2c : call x .reply ≡ reply I2c (x .to) status results = reply-is ∙ ap (λ (b : Bus). reply b (x .to) status results) i in
+          let reply-i2c : call x .reply ≡ reply I2c (x .to) status results =
+          reply-is ∙ ap (λ (b : Bus). reply b (x .to) status results) i in
           let unaddressed : call x .reply ≡ reply I2c 0 status results = reply-i2c ∙ reply-anywhere (x .to) 0 status results in
           let again : (more : List ℕ) → ReadsAs I2c code 0 asked (call x .reply ++ more) status results =
           λ more. rw unaddressed (whole I2c code 0 asked status results more row tt (responding .status-known) (responding .enough)) in
           record {
             read = λ address buffer heard long.
                 read-again (x .profile) (call x) address buffer i
-                (unrefused-refusal (x .profile) (call x .state) (length (call x .flash)) buffer (sound .in-range) (left-formed-call .well-formed)
-                (omega (arith, sound .flash-holds, left-formed-call .flash-length)) long)
+                (unrefused-refusal (x .profile) (call x .state) (length (call x .flash)) buffer (unrefused .in-range)
+                (left-formed-call .well-formed)
+                (omega (arith, unrefused .flash-holds, left-formed-call .flash-length)) long)
                 left-running heard (left-last i) some (rw called);
-            longer = λ more. rw reply-i2c (whole I2c code (x .to) asked status results more row tt (responding .status-known) (responding .enough));
+            longer =
+                λ more. rw reply-i2c (whole I2c code (x .to) asked status results more row tt (responding .status-known)
+                (responding .enough));
             first-whole = λ more second.
                 first-read code asked (call x .reply ++ more) second results (rw (again more .decoding-is)) (again more .results-are);
             second-whole = λ first more damaged.
-                second-read code asked first (call x .reply ++ more) results damaged (rw (again more .decoding-is)) (again more .results-are);
+                second-read code asked first (call x .reply ++ more) results damaged (rw (again more .decoding-is))
+                (again more .results-are);
           }
 
-      next-addressed : addressed (bus x) (x .state .address) (x .to) ≡ true → (code ≡ 0x01 → addressOver (bus x) (getD arguments 0 0) ≡ false)
-          → (addressedNext (x .to) code arguments ≡ 0 → ⊥) → addressed (bus x) (call x .state .address) (addressedNext (x .to) code arguments) ≡ true
+      next-addressed : addressed (bus x) (x .state .address) (x .to) ≡ true
+          → (code ≡ 0x01 → addressOver (bus x) (getD arguments 0 0) ≡ false)
+          → (addressedNext (x .to) code arguments ≡ 0 → ⊥)
+          → addressed (bus x) (call x .state .address) (addressedNext (x .to) code arguments) ≡ true
       next-addressed heard fits some =
           by-test (eqb code 0x01)
           (λ e.
@@ -179,7 +191,8 @@ module _ (x : Sending) (given : Given x) (code : ℕ) (arguments : List ℕ) (ta
           moved : code ≡ 0x01 → act .response ≡ Reply status results → act .state .address ≡ Own (addressTaken (bus x) (getD arguments 0 0))
           moved is said =
               let same : act ≡ setAddress (x .profile) (x .state) arguments (x .flash) =
-              ap (λ (k : ℕ). performed (x .profile) (x .state) k arguments (x .flash)) is ∙ performed-setAddress (x .profile) (x .state) arguments (x .flash) in
+              ap (λ (k : ℕ). performed (x .profile) (x .state) k arguments (x .flash)) is
+              ∙ performed-setAddress (x .profile) (x .state) arguments (x .flash) in
               rw same (setAddress-taken (x .profile) (x .state) arguments (x .flash) status results (rw same at said))
 
 -- a command, by what it says
@@ -191,9 +204,11 @@ module _ (x : Sending) (given : Given x) (code : ℕ) (arguments : List ℕ) (ta
   speaks : Responds (x .state) code asked (performed (x .profile) (x .state) code arguments (x .flash))
   speaks =
       rw (executed-performed (x .profile) (x .state) code arguments (x .flash) (allowed .is-served) (allowed .length-allowed)) at
-      (executed-responds (x .profile) (x .state) (x .flash) code asked arguments (sound x given code arguments taken .flash-holds) read-length)
+      (executed-responds (x .profile) (x .state) (x .flash) code asked arguments (unrefused x given code arguments taken .flash-holds)
+      read-length)
 
-  replying-by : (r : Response) → performed (x .profile) (x .state) code arguments (x .flash) .response ≡ r → ResponseRead x code arguments asked r
+  replying-by : (r : Response) → performed (x .profile) (x .state) code arguments (x .flash) .response ≡ r
+      → ResponseRead x code arguments asked r
   replying-by (Reply status results) said =
       let responding : Responding (x .state) code asked (act x given code arguments taken) status results =
       subst (λ (r : Response). Responded (x .state) code asked (act x given code arguments taken) r) said speaks in
@@ -201,11 +216,14 @@ module _ (x : Sending) (given : Given x) (code : ℕ) (arguments : List ℕ) (ta
         number-is = rw (called x given code arguments taken asked status results said);
         reads = reads-whole x given code arguments taken asked status results said (allowed .is-served) (heard .0) responding;
         read-out = read-out x given code arguments taken asked status results said (allowed .is-served) (heard .0) responding;
-        next-addressed = next-addressed x given code arguments taken asked status results said (allowed .is-served) (heard .0) responding (heard .1) address-fits;
+        next-addressed =
+            next-addressed x given code arguments taken asked status results said (allowed .is-served) (heard .0) responding (heard .1)
+            address-fits;
       }
   replying-by NoReply said = ap (λ (c : Called). c .number) (taken .call-is) ∙ rw said
 
-replied : (x : Sending) → Given x → (a : Instruction) → Understood x a → AllowedBy (bus x) (x .profile .longest) (x .to) a → NewAddress (bus x) a
+replied : (x : Sending) → Given x → (a : Instruction) → Understood x a → AllowedBy (bus x) (x .profile .longest) (x .to) a
+    → NewAddress (bus x) a
     → AddressedBy (x .profile) (x .state) (x .to) a → Replied x a
 replied x given (Commands code arguments) taken allowed fits heard =
     λ asked read-length. replying-by x given code arguments taken allowed fits heard asked read-length _ refl

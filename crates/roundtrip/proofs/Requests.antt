@@ -1,5 +1,5 @@
--- Every request is understood. A command's frame is well framed by its shape (`FrameLaws`) and by the encoder's own tests (`Made`), so the board obeys it
--- (`BoardLaws`), and the encoder asks the same table of argument lengths. A general call is its exact form.
+-- Every request is understood. A command's frame is well framed by its shape (`FrameLaws`) and by the encoder's own tests (`Made`), so the
+-- board obeys it (`BoardLaws`), and the encoder asks the same table of argument lengths. A general call is its exact form.
 use mathlib.Core.Path.{_≡_, refl, _∙_}
 use mathlib.Core.Bool.{Bool, true, false, _||_}
 use mathlib.Core.List.{List, [], _∷_, _++_}
@@ -25,7 +25,8 @@ use Rattle.rules.specs.Board.{nothing, addressReset, handled}
 use Rattle.rules.specs.Master.{addressOver, flashAddressOver, commandWrong, argumentWrong, requestBytes}
 use Rattle.laws.proofs.BoardLaws.{received-handled}
 use Rattle.laws.proofs.FrameLaws.{argumentsOf-request, commandOf-request, destination-request, verdict-request}
-use Rattle.roundtrip.specs.Sending.{Sending, Instruction, Commands, AddressReset, BoardReset, Given, Beside, AddressedBy, bus, encoding, frame, call, instructionOf, instruction, target}
+use Rattle.roundtrip.specs.Sending.{Sending, Instruction, Commands, AddressReset, BoardReset, Given, Beside, AddressedBy, bus}
+use Rattle.roundtrip.specs.Sending.{encoding, frame, call, instructionOf, instruction, target}
 use Rattle.roundtrip.specs.Understood.{verdictOn, TakenAs, Understood, Carried, RequestsUnderstood}
 use Rattle.roundtrip.proofs.Made.{||-false, encoded-made, Allowed, commandWrong-allowed}
 
@@ -35,14 +36,16 @@ AllowedBy bus M to (Commands code arguments) = Allowed bus M to code (length arg
 AllowedBy bus M to AddressReset = Unit
 AllowedBy bus M to BoardReset = Unit
 
-allowed-by : (b : Bus) (M : ℕ) (r : Request) (to : ℕ) (bytes : List ℕ) → argumentWrong b M r to (length bytes) ≡ false → AllowedBy b M to (instructionOf r bytes)
+allowed-by : (b : Bus) (M : ℕ) (r : Request) (to : ℕ) (bytes : List ℕ) → argumentWrong b M r to (length bytes) ≡ false
+    → AllowedBy b M to (instructionOf r bytes)
 unfolding argumentWrong
 allowed-by b M (Plain code) to bytes e = commandWrong-allowed b M to code 0 e
 allowed-by b M (SetAddress address hardware) to bytes e =
     commandWrong-allowed b M to 0x01 2 (||-false (commandWrong b M to 0x01 2) (addressOver b address || ltb 255 hardware) e .0)
 allowed-by b M (Write address) to bytes e =
     let long : 2 + length bytes ≡ length (twoBytes address ++ bytes) = omega arith in
-    rw long at (commandWrong-allowed b M to 0x06 (2 + length bytes) (||-false (commandWrong b M to 0x06 (2 + length bytes)) (flashAddressOver address) e .0))
+    rw long at (commandWrong-allowed b M to 0x06 (2 + length bytes)
+    (||-false (commandWrong b M to 0x06 (2 + length bytes)) (flashAddressOver address) e .0))
 allowed-by b M (Read address n) to bytes e = commandWrong-allowed b M to 0x08 3 (||-false (commandWrong b M to 0x08 3) _ e .0)
 allowed-by b M ResetAddress to bytes e = tt
 allowed-by b M Reset to bytes e = tt
@@ -57,12 +60,14 @@ none-over : (b : Bus) → addressOver b 0 ≡ false
 none-over I2c = refl
 none-over Rs485 = refl
 
-new-address : (b : Bus) (M : ℕ) (r : Request) (to : ℕ) (bytes : List ℕ) → argumentWrong b M r to (length bytes) ≡ false → NewAddress b (instructionOf r bytes)
+new-address : (b : Bus) (M : ℕ) (r : Request) (to : ℕ) (bytes : List ℕ) → argumentWrong b M r to (length bytes) ≡ false
+    → NewAddress b (instructionOf r bytes)
 unfolding argumentWrong
 new-address b M (Plain code) to bytes e = λ is. none-over b
 new-address b M (SetAddress address hardware) to bytes e =
     λ is.
-    ||-false (addressOver b address) (ltb 255 hardware) (||-false (commandWrong b M to 0x01 2) (addressOver b address || ltb 255 hardware) e .1) .0
+    ||-false (addressOver b address) (ltb 255 hardware)
+    (||-false (commandWrong b M to 0x01 2) (addressOver b address || ltb 255 hardware) e .1) .0
 new-address b M (Write address) to bytes e = λ is. absurd (omega arith)
 new-address b M (Read address n) to bytes e = λ is. absurd (omega arith)
 new-address b M ResetAddress to bytes e = tt
@@ -86,7 +91,8 @@ requestBytes-form b Reset to bytes = refl
 -- a request that was made: its frame, and what it passed
 pub frame-is : (x : Sending) → encoding x .number ≡ 0 → frame x ≡ formOf (bus x) (x .to) (instruction x)
 frame-is x e =
-    encoded-made (bus x) (x .profile .longest) (x .request) (x .to) (x .bytes) (x .room) e .bytes-are ∙ requestBytes-form (bus x) (x .request) (x .to) (x .bytes)
+    encoded-made (bus x) (x .profile .longest) (x .request) (x .to) (x .bytes) (x .room) e .bytes-are
+    ∙ requestBytes-form (bus x) (x .request) (x .to) (x .bytes)
 
 pub made-allowed : (x : Sending) → encoding x .number ≡ 0 → AllowedBy (bus x) (x .profile .longest) (x .to) (instruction x)
 made-allowed x e =
@@ -100,11 +106,13 @@ made-address x e =
 
 -- commands
 
-sent-request : (b : Bus) (beside to code : ℕ) (arguments : List ℕ) → Beside b beside to → destination b beside (request b to code arguments) ≡ to
+sent-request : (b : Bus) (beside to code : ℕ) (arguments : List ℕ) → Beside b beside to
+    → destination b beside (request b to code arguments) ≡ to
 sent-request I2c beside to code arguments e = e
 sent-request Rs485 beside to code arguments e = destination-request beside to code arguments
 
-pub executed-performed : (p : Profile) (s : State) (code : ℕ) (arguments d : List ℕ) → served code ≡ true → lengthAllowed code (length arguments) ≡ true
+pub executed-performed : (p : Profile) (s : State) (code : ℕ) (arguments d : List ℕ) → served code ≡ true
+    → lengthAllowed code (length arguments) ≡ true
     → executed p s code arguments d ≡ performed p s code arguments d
 unfolding executed
 executed-performed p s code arguments d row long = rw (row, long)
@@ -131,7 +139,8 @@ module _ (x : Sending) (none : refusal (x .profile) (x .state) (length (x .flash
   commanded code arguments form beside heard allowed =
       let sent = sent-request (bus x) (x .beside) (x .to) code arguments beside in
       let command : verdictOn x ≡ verdicts.Command =
-      rw (form, heard .0) (verdict-request (bus x) (x .profile .longest) (x .state .address) (x .beside) (x .to) code arguments sent (heard .1) (allowed .fits)) in
+      rw (form, heard .0) (verdict-request (bus x) (x .profile .longest) (x .state .address) (x .beside) (x .to) code arguments sent
+      (heard .1) (allowed .fits)) in
       let code-is : commandOf (bus x) (frame x) ≡ code = rw form (commandOf-request (bus x) (x .to) code arguments) in
       let arguments-is : argumentsOf (bus x) (frame x) ≡ arguments = rw form (argumentsOf-request (bus x) (x .to) code arguments) in
       let to-is : destination (bus x) (x .beside) (frame x) ≡ x .to = rw form sent in
@@ -142,7 +151,13 @@ module _ (x : Sending) (none : refusal (x .profile) (x .state) (length (x .flash
         arguments-are = arguments-is;
         call-is =
             received-handled (x .profile) (x .state) (x .flash) (x .beside) (frame x) (x .buffer) none
-            ∙ rw (command, to-is, code-is, arguments-is, executed-performed (x .profile) (x .state) code arguments (x .flash) (allowed .is-served) (allowed .length-allowed));
+            ∙ rw (
+              command,
+              to-is,
+              code-is,
+              arguments-is,
+              executed-performed (x .profile) (x .state) code arguments (x .flash) (allowed .is-served) (allowed .length-allowed),
+            );
       }
 
   -- general calls
@@ -151,13 +166,15 @@ module _ (x : Sending) (none : refusal (x .profile) (x .state) (length (x .flash
       → (verdictOn x ≡ verdicts.ResetAddress) × (call x ≡ nothing (addressReset (x .state)) (x .flash))
   unfolding handled
   reset-addressed form beside stopped =
-      let heard : verdictOn x ≡ verdicts.ResetAddress = rw (form, stopped) (verdict-resetAddress (bus x) (x .profile .longest) (x .state .address) (x .beside) beside) in
+      let heard : verdictOn x ≡ verdicts.ResetAddress =
+      rw (form, stopped) (verdict-resetAddress (bus x) (x .profile .longest) (x .state .address) (x .beside) beside) in
       (heard, received-handled (x .profile) (x .state) (x .flash) (x .beside) (frame x) (x .buffer) none ∙ rw heard)
 
   reset : frame x ≡ resetFrame (bus x) → Beside (bus x) (x .beside) 0 → (verdictOn x ≡ verdicts.Reset) × (call x ≡ nothing fresh (x .flash))
   unfolding handled
   reset form beside =
-      let heard : verdictOn x ≡ verdicts.Reset = rw form (verdict-reset (bus x) (x .profile .longest) (x .state .running) (x .state .address) (x .beside) beside) in
+      let heard : verdictOn x ≡ verdicts.Reset =
+      rw form (verdict-reset (bus x) (x .profile .longest) (x .state .running) (x .state .address) (x .beside) beside) in
       (heard, received-handled (x .profile) (x .state) (x .flash) (x .beside) (frame x) (x .buffer) none ∙ rw heard)
 
 understood : (x : Sending) (a : Instruction) → frame x ≡ formOf (bus x) (x .to) a → AllowedBy (bus x) (x .profile .longest) (x .to) a
@@ -179,7 +196,8 @@ carried b Reset to bytes = tt
 
 pub given-understood : (x : Sending) → Given x → Understood x (instruction x)
 given-understood x given =
-    understood x (instruction x) (frame-is x (given .made)) (made-allowed x (given .made)) (given .sent) (given .none-refused) (given .heard)
+    understood x (instruction x) (frame-is x (given .made)) (made-allowed x (given .made)) (given .sent) (given .none-refused)
+    (given .heard)
 
 pub requests-understood : RequestsUnderstood
 requests-understood x given = (given-understood x given, rw (frame-is x (given .made)) (carried (bus x) (x .request) (x .to) (x .bytes)))

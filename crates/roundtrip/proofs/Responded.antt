@@ -1,5 +1,6 @@
--- What a command says fits the decoder: a status that it knows, and with OK at least the command's fixed part. Command by command (`executed-cases`); a
--- read within S shows as many bytes as it asks for. A command that replies keeps the board stopped, and only set address moves it.
+-- What a command says fits the decoder: a status that it knows, and with OK at least the command's fixed part. Command by command
+-- (`executed-cases`); a read within S shows as many bytes as it asks for. A command that replies keeps the board stopped, and only set
+-- address moves it.
 use mathlib.Core.Path.{_≡_, refl}
 use mathlib.Core.Bool.{false, _||_, and-eq-true-iff}
 use mathlib.Core.List.{List, [], _∷_}
@@ -12,7 +13,8 @@ use borrow.Author.Tests.{leb-true, le-ltb}
 use Rattle.rules.specs.Profile.{Profile}
 use Rattle.rules.specs.State.{State}
 use Rattle.rules.specs.Frames.{shortestReply, twoBytes, numberAt}
-use Rattle.rules.specs.Commands.{Response, Reply, NoReply, Acted, replying, setAddress, hardwareInfo, serialNumber, accepted, written, finished, readable, shown, executed, ok, commandNotSupported, invalidArguments}
+use Rattle.rules.specs.Commands.{Response, Reply, NoReply, Acted, replying, setAddress, hardwareInfo, serialNumber, accepted, written}
+use Rattle.rules.specs.Commands.{finished, readable, shown, executed, ok, commandNotSupported, invalidArguments}
 use Rattle.rules.specs.Master.{fixedPart, resultsMissing}
 use Rattle.laws.proofs.UploadLaws.{by-test}
 use Rattle.laws.proofs.CommandLaws.{executed-cases}
@@ -41,7 +43,8 @@ enough-results code asked n h = le-ltb n (fixedPart code asked) h
 module _ (p : Profile) (s : State) (d : List ℕ) (code asked : ℕ) where
   replying-responds : (status : ℕ) (results : List ℕ) → status ≤ 5 → resultsMissing code asked status (length results) ≡ false
       → Responds s code asked (replying s d status results)
-  replying-responds status results known enough = record { status-known = known; enough = enough; still-stopped = refl; address-kept = λ other. refl }
+  replying-responds status results known enough =
+      record { status-known = known; enough = enough; still-stopped = refl; address-kept = λ other. refl }
 
   unsupported-responds : Responds s code asked (replying s d commandNotSupported [])
   unsupported-responds = replying-responds commandNotSupported [] (omega arith) refl
@@ -81,13 +84,16 @@ module _ (p : Profile) (s : State) (d : List ℕ) (code asked : ℕ) where
   unfolding finished fixedPart
   finished-responds is = record { status-known = omega arith; enough = rw is; still-stopped = refl; address-kept = λ other. refl }
 
-  shown-responds : (args : List ℕ) → p .offset + p .size ≤ length d → code ≡ 0x08 → asked ≡ getD args 2 0 → Responds s code asked (shown p s args d)
+  shown-responds : (args : List ℕ) → p .offset + p .size ≤ length d → code ≡ 0x08 → asked ≡ getD args 2 0
+      → Responds s code asked (shown p s args d)
   unfolding shown fixedPart
   shown-responds args room is length-is =
       by-test (readable p (numberAt args 0) (getD args 2 0))
       (λ e.
       let within : numberAt args 0 + getD args 2 0 ≤ p .size =
-      leb-true (numberAt args 0 + getD args 2 0) (p .size) (and-eq-true-iff (leb (numberAt args 0 + getD args 2 0) (p .size)) (leb (getD args 2 0) (p .longest - shortestReply (p .bus))) .0 e .0) in
+      leb-true (numberAt args 0 + getD args 2 0) (p .size)
+      (and-eq-true-iff (leb (numberAt args 0 + getD args 2 0) (p .size)) (leb (getD args 2 0) (p .longest - shortestReply (p .bus))) .0 e
+      .0) in
       let held : length (take (getD args 2 0) (drop (p .offset + numberAt args 0) d)) ≡ getD args 2 0 =
       length-take-le (getD args 2 0) (drop (p .offset + numberAt args 0) d) (simp length-drop (omega arith)) in
       rw e (ok-responds _ (rw (is, held, length-is) (omega arith))))

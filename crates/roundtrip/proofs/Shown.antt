@@ -1,5 +1,5 @@
--- The reads of an image that stands in flash: each shows its part of it (`part-overlay`) and changes neither flash nor readiness; parts that follow one
--- another, joined, are the whole.
+-- The reads of an image that stands in flash: each shows its part of it (`part-overlay`) and changes neither flash nor readiness; parts
+-- that follow one another, joined, are the whole.
 use mathlib.Core.Path.{_≡_, refl, sym, ap, _∙_}
 use mathlib.Core.List.{List, [], _∷_, _++_}
 use Prim.Native.Nat.{ℕ, _+_, _-_, _≤_}
@@ -29,8 +29,10 @@ shown-part p s at n d within most =
     let place : numberAt (twoBytes at ++ n ∷ []) 0 ≡ at = div-add-mod' at 256 in
     rw (place, le-leb (at + n) (p .size) within, le-leb n (p .longest - shortestReply (p .bus)) most)
 
-module _ (l : Line) (d image : List ℕ) (fits : length image ≤ l .profile .size) (room : l .profile .offset + l .profile .size ≤ length d) where
-  module _ (b : Board) (ready : Ready l b) (stands : b .flash ≡ overlay d (l .profile .offset) image) (at n : ℕ) (within : at + n ≤ length image)
+module _ (l : Line) (d image : List ℕ) (fits : length image ≤ l .profile .size)
+    (room : l .profile .offset + l .profile .size ≤ length d) where
+  module _ (b : Board) (ready : Ready l b) (stands : b .flash ≡ overlay d (l .profile .offset) image) (at n : ℕ)
+      (within : at + n ≤ length image)
       (most : n ≤ resultsMost (l .profile .bus) (l .profile .longest)) where
     abbrev x : Sending
     x = sending l b (record { request = Read at n; bytes = [] })
@@ -42,7 +44,8 @@ module _ (l : Line) (d image : List ℕ) (fits : length image ≤ l .profile .si
     read-exchanged =
         let part : take n (drop (l .profile .offset + at) (b .flash)) ≡ take n (drop at image) =
         rw stands (part-overlay d (l .profile .offset) image (omega arith) at n within) in
-        exchange l b ready (record { request = Read at n; bytes = [] }) (twoBytes at ++ n ∷ []) (take n (drop at image)) (b .state .upload) (b .flash)
+        exchange l b ready (record { request = Read at n; bytes = [] }) (twoBytes at ++ n ∷ []) (take n (drop at image))
+        (b .state .upload) (b .flash)
         (read-made l b ready at (omega (arith, facts .size-most)) n most) refl (λ e. refl)
         (shown-part (l .profile) (b .state) at n (b .flash) (omega arith) most ∙ ap (replying (b .state) (b .flash) ok) part)
 
@@ -57,7 +60,8 @@ module _ (l : Line) (d image : List ℕ) (fits : length image ≤ l .profile .si
   read-all (k ∷ parts) b at ready stands each whole =
       let one = read-exchanged b ready stands at k (omega arith) (each .0) in
       let others =
-      read-all parts (after (sending l b (record { request = Read at k; bytes = [] }))) (at + k) (one .ready) (one .flash-is ∙ stands) (each .1) (omega arith) in (
+      read-all parts (after (sending l b (record { request = Read at k; bytes = [] }))) (at + k) (one .ready) (one .flash-is ∙ stands)
+      (each .1) (omega arith) in (
         (one .answered-ok, others .0),
         rw (one .results-are, others .1, ← drop-drop k at image, take-append-drop),
       )

@@ -1,5 +1,5 @@
--- The upload is seen: the writes leave the board as if the image had come in one write (`Written`), so the finalize leaves it standing in flash
--- (`finished-flash`) and answers the count of the state that it leaves, and what is read back is the image (`Shown`).
+-- The upload is seen: the writes leave the board as if the image had come in one write (`Written`), so the finalize leaves it standing in
+-- flash (`finished-flash`) and answers the count of the state that it leaves, and what is read back is the image (`Shown`).
 use mathlib.Core.Path.{_≡_, refl, ap, _∙_}
 use mathlib.Core.Logic.{_⊎_, inl, inr}
 use mathlib.Core.List.{List, []}
@@ -40,26 +40,29 @@ module _ (l : Line) (d image : List ℕ) (some : 1 ≤ length image) (b : Board)
   pub finalize-exchanged : Exchanged l (sending l b finalize) (g .upload) (g .flash) (twoBytes (g .upload .count))
   unfolding performed finished
   finalize-exchanged =
-      exchange l b (going .ready) finalize [] (twoBytes (g .upload .count)) (g .upload) (g .flash) (finalize-made l b (going .ready)) refl (λ e. absurd (omega arith))
+      exchange l b (going .ready) finalize [] (twoBytes (g .upload .count)) (g .upload) (g .flash) (finalize-made l b (going .ready))
+      refl (λ e. absurd (omega arith))
       (rw standing)
 
 -- bytes outside the image
-others : (d : List ℕ) (at : ℕ) (image : List ℕ) → at + length image ≤ length d → (i : ℕ) → (i < at) ⊎ (at + length image ≤ i) → getD (overlay d at image) i 0 ≡ getD d i 0
+others : (d : List ℕ) (at : ℕ) (image : List ℕ) → at + length image ≤ length d → (i : ℕ) → (i < at) ⊎ (at + length image ≤ i)
+    → getD (overlay d at image) i 0 ≡ getD d i 0
 others d at image fits i (inl before) = getD-overlay-before d at image fits i before
 others d at image fits i (inr behind) = getD-overlay-behind d at image fits i behind
 
 pub upload-roundtrip : UploadRoundtrip
 upload-roundtrip l b image plan ready some fits planned =
-    let sound = refusal-unrefused (l .profile) (b .state) (length (b .flash)) (l .buffer) (ready .none-refused) in
+    let unrefused = refusal-unrefused (l .profile) (b .state) (length (b .flash)) (l .buffer) (ready .none-refused) in
     let wrote = written-all l (b .flash) plan [] image b 0 refl (going-begins l b ready) (planned .each) (planned .whole) (omega arith) in
     let last = finalize-exchanged l (b .flash) image some (left l b (writes 0 image plan)) (wrote .1) in
-    let stands = last .flash-is ∙ finished-flash (l .profile) (sound .profile) (b .flash) (sound .flash-holds) image fits in
+    let stands = last .flash-is ∙ finished-flash (l .profile) (unrefused .profile) (b .flash) (unrefused .flash-holds) image fits in
     record {
       writes-ok = wrote .0;
       finalize-ok = last .answered-ok;
       count-read = rw (last .results-are, last .upload-is) (div-add-mod' _ 256);
       image-stands = stands;
-      others-kept = λ i other. rw stands (others (b .flash) (l .profile .offset) image (omega (arith, sound .flash-holds)) i other);
+      others-kept = λ i other. rw stands (others (b .flash) (l .profile .offset) image (omega (arith, unrefused .flash-holds)) i other);
       read-back = λ parts p.
-          read-all l (b .flash) image fits (sound .flash-holds) parts (uploaded l b image plan) 0 (last .ready) stands (p .each) (omega (arith, p .whole));
+          read-all l (b .flash) image fits (unrefused .flash-holds) parts (uploaded l b image plan) 0 (last .ready) stands (p .each)
+          (omega (arith, p .whole));
     }

@@ -1,5 +1,5 @@
--- The writes of an upload: each is accepted, since it begins at zero or where the one before ended, and its bytes join those before (`takenAll-append`).
--- So the board stands as if all bytes so far had come in one write, and is ready for the next.
+-- The writes of an upload: each is accepted, since it begins at zero or where the one before ended, and its bytes join those before
+-- (`takenAll-append`). So the board stands as if all bytes so far had come in one write, and is ready for the next.
 use mathlib.Core.Path.{_≡_, refl, sym, ap, _∙_}
 use mathlib.Core.Bool.{true, _||_}
 use mathlib.Core.List.{List, [], _∷_, _++_, append-assoc, append-nil}
@@ -95,7 +95,8 @@ module _ (l : Line) (d : List ℕ) where
 
   -- all of them
   pub written-all : (plan front rest : List ℕ) (b : Board) (at : ℕ) → at ≡ length front → Going l d front b
-      → EachMost (dataMost (l .profile .bus) (l .profile .longest)) plan → total plan ≡ length rest → length front + length rest ≤ l .profile .size
+      → EachMost (dataMost (l .profile .bus) (l .profile .longest)) plan → total plan ≡ length rest
+      → length front + length rest ≤ l .profile .size
       → EachOk (exchanges l b (writes at rest plan)) × Going l d (front ++ rest) (left l b (writes at rest plan))
   unfolding exchanges left
   written-all [] front [] b at is going each whole fits = (tt, rw append-nil going)
@@ -106,7 +107,8 @@ module _ (l : Line) (d : List ℕ) where
       let on = write-going front b going (take k rest) (omega (arith, each .0)) (omega arith) in
       let end : length front + k ≡ length (front ++ take k rest) = simp length-append (omega arith) in
       let others =
-      written-all plan (front ++ take k rest) (drop k rest) (after (sending l b (record { request = Write (length front); bytes = take k rest }))) (length front + k) end on (each .1)
+      written-all plan (front ++ take k rest) (drop k rest)
+      (after (sending l b (record { request = Write (length front); bytes = take k rest }))) (length front + k) end on (each .1)
       (simp length-drop (omega arith)) (simp (length-append, length-drop) (omega arith)) in
       let split : (front ++ take k rest) ++ drop k rest ≡ front ++ rest = rw (append-assoc, take-append-drop) in
       rw is ((first .answered-ok, others .0), rw split at (others .1))

@@ -15,7 +15,8 @@ use Rattle.roundtrip.specs.Sending.{Sending, Instruction, Commands, Addr
 
 -- a reply decodes, with the command, address and read length that were sent, to this status with these results
 pub record ReadsAs (bus : Bus) (code address asked : ℕ) (reply : List ℕ) (status : ℕ) (results : List ℕ) : Type 0 where
-  pub decoding-is : decoded bus code address asked reply ≡ record { number = 0; status = status; start = headerLength bus + 2; len = length results }
+  pub decoding-is : decoded bus code address asked reply
+      ≡ record { number = 0; status = status; start = headerLength bus + 2; len = length results }
   pub results-are : resultsIn (decoded bus code address asked reply) reply ≡ results
 
 -- of two reads, this one counts, and gives these results
@@ -45,7 +46,8 @@ pub record Answered (x : Sending) (code : ℕ) (arguments : List ℕ) (asked sta
   pub reads : ReadsAs (bus x) code (x .to) asked (call x .reply) status results
   pub read-out : bus x ≡ I2c → ReadOut x code asked status results
   -- there is an address to read at, but after a set address to 0
-  pub next-addressed : (addressedNext (x .to) code arguments ≡ 0 → ⊥) → addressed (bus x) (call x .state .address) (addressedNext (x .to) code arguments) ≡ true
+  pub next-addressed : (addressedNext (x .to) code arguments ≡ 0 → ⊥)
+      → addressed (bus x) (call x .state .address) (addressedNext (x .to) code arguments) ≡ true
 
 -- by what the command says: a reply that is read, or nothing to send
 abbrev pub ResponseRead : Sending → ℕ → List ℕ → ℕ → Response → Type 0

@@ -70,7 +70,8 @@ abbrev pub Beside : Bus → ℕ → ℕ → Type 0
 Beside I2c beside target = beside ≡ target
 Beside Rs485 beside target = Unit
 
--- a command is heard at an address of the board while it isn't running, a reset address by any board that isn't running, a reset by any board
+-- a command is heard at an address of the board while it isn't running, a reset address by any board that isn't running, a reset by any
+-- board
 abbrev pub AddressedBy : Profile → State → ℕ → Instruction → Type 0
 AddressedBy p s to (Commands code arguments) = (s .running ≡ false) × (addressed (p .bus) (s .address) to ≡ true)
 AddressedBy p s to AddressReset = s .running ≡ false

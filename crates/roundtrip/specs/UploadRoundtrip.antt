@@ -61,14 +61,16 @@ pub record UploadedAndRead (l : Line) (b : Board) (image plan : List ℕ) : Type
   -- the image stands in flash, and every other byte is as before
   pub image-stands : uploaded l b image plan .flash ≡ overlay (b .flash) (l .profile .offset) image
   pub others-kept :
-      (i : ℕ) → (i < l .profile .offset) ⊎ (l .profile .offset + length image ≤ i) → getD (uploaded l b image plan .flash) i 0 ≡ getD (b .flash) i 0
+      (i : ℕ) → (i < l .profile .offset) ⊎ (l .profile .offset + length image ≤ i)
+      → getD (uploaded l b image plan .flash) i 0 ≡ getD (b .flash) i 0
   -- read back in parts of any allowed lengths it is the image's own bytes
   pub read-back :
       (parts : List ℕ) → Plan (resultsMost (l .profile .bus) (l .profile .longest)) (length image) parts
-      → EachOk (exchanges l (uploaded l b image plan) (reads 0 parts)) × (allResults (exchanges l (uploaded l b image plan) (reads 0 parts)) ≡ image)
+      → EachOk (exchanges l (uploaded l b image plan) (reads 0 parts))
+      × (allResults (exchanges l (uploaded l b image plan) (reads 0 parts)) ≡ image)
 
--- an image of 1 to S bytes, written from zero in frames of any allowed lengths and finalized, is answered OK all along, stands in flash with every
--- other byte as before, and reads back as its own bytes
+-- an image of 1 to S bytes, written from zero in frames of any allowed lengths and finalized, is answered OK all along, stands in flash
+-- with every other byte as before, and reads back as its own bytes
 abbrev pub UploadRoundtrip : Type 0
 UploadRoundtrip =
     (l : Line) (b : Board) (image plan : List ℕ) → Ready l b → 1 ≤ length image → length image ≤ l .profile .size

@@ -8,7 +8,8 @@ use Rattle.rules.specs.declared.kinds.Bus.{Bus}
 use Rattle.rules.specs.declared.kinds.Bus.the-variants.{I2c, Rs485}
 use Rattle.rules.specs.declared.kinds.Address.the-variants.{DefaultRange}
 use Rattle.rules.specs.declared.kinds.Verdict.{Verdict}
-use Rattle.rules.specs.declared.kinds.Verdict.the-variants.{Reset, Running, ResetAddress, Short, Long, WrongSum, Foreign, OtherGeneral, BadTransfer, BadSum, Command}
+use Rattle.rules.specs.declared.kinds.Verdict.the-variants.{Reset, Running, ResetAddress, Short, Long, WrongSum, Foreign}
+use Rattle.rules.specs.declared.kinds.Verdict.the-variants.{OtherGeneral, BadTransfer, BadSum, Command}
 use Rattle.rules.specs.Profile.{Profile}
 use Rattle.rules.specs.State.{State, fresh}
 use Rattle.rules.specs.Numbers.{refusal}
@@ -57,7 +58,8 @@ handled p s a f d Foreign = nothing s d
 handled p s a f d OtherGeneral = nothing s d
 handled p s a f d BadTransfer = finishedCall (p .bus) (destination (p .bus) a f) (replying s d invalidTransfer [])
 handled p s a f d BadSum = finishedCall (p .bus) (destination (p .bus) a f) (replying s d invalidCrc [])
-handled p s a f d Command = finishedCall (p .bus) (destination (p .bus) a f) (executed p s (commandOf (p .bus) f) (argumentsOf (p .bus) f) d)
+handled p s a f d Command =
+    finishedCall (p .bus) (destination (p .bus) a f) (executed p s (commandOf (p .bus) f) (argumentsOf (p .bus) f) d)
 
 -- a call refused by a number of 2 or above: all untouched
 abbrev pub refused : ℕ → State → List ℕ → Called

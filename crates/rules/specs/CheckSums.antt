@@ -18,7 +18,8 @@ pub record Algorithm : Type 0 where
 
 -- most significant bit first, at a width
 abbrev pub mostFirst : ℕ → ℕ → ℕ → Algorithm
-mostFirst width poly start = record { out = λ r. eqb (r / 2 ^ (width - 1) % 2) 1; rest = λ r. r * 2 % 2 ^ width; poly = poly; start = start }
+mostFirst width poly start =
+    record { out = λ r. eqb (r / 2 ^ (width - 1) % 2) 1; rest = λ r. r * 2 % 2 ^ width; poly = poly; start = start }
 
 -- least significant bit first, with the polynomial reflected
 abbrev pub leastFirst : ℕ → ℕ → Algorithm

@@ -34,7 +34,8 @@ committed p g =
 unfoldable pub taken : Profile → Progress → ℕ → Progress
 taken p g b =
     let u : Upload = g .upload in
-    let more : Progress = record { upload = record { next = u .next + 1; waiting = u .waiting ++ (b ∷ []); count = u .count }; flash = g .flash } in
+    let more : Progress =
+    record { upload = record { next = u .next + 1; waiting = u .waiting ++ (b ∷ []); count = u .count }; flash = g .flash } in
     cond (eqb ((u .next + 1) % p .page) 0) (committed p more) more
 
 -- accepted bytes, one by one

@@ -153,7 +153,8 @@ rows =
     -- S of half a page, a page, 65,472, 65,536; O of half a page, 65,472, 65,536
     ∷ row 22 (refusedAs (built I2c 256 32 0 1 []) ∷ refusedAs (built I2c 256 64 0 1 []) ∷ refusedAs (built I2c 256 65472 0 1 [])
     ∷ refusedAs (built I2c 256 65536 0 1 []) ∷ []) (2 ∷ 0 ∷ 0 ∷ 2 ∷ [])
-    ∷ row 23 (refusedAs (built I2c 256 128 32 1 []) ∷ refusedAs (built I2c 256 128 65472 1 []) ∷ refusedAs (built I2c 256 128 65536 1 []) ∷ [])
+    ∷ row 23 (refusedAs (built I2c 256 128 32 1 []) ∷ refusedAs (built I2c 256 128 65472 1 []) ∷ refusedAs
+    (built I2c 256 128 65536 1 []) ∷ [])
     (2 ∷ 0 ∷ 2 ∷ [])
     -- hardware types 0, 1, 255, 256; a serial of 16 and of 17 bytes
     ∷ row 24 (refusedAs (built I2c 256 128 0 0 []) ∷ refusedAs (built I2c 256 128 0 1 []) ∷ refusedAs (built I2c 256 128 0 255 [])
@@ -161,10 +162,12 @@ rows =
     ∷ row 25 (refusedAs (built I2c 256 128 0 1 (replicate 16 0)) ∷ refusedAs (built I2c 256 128 0 1 (replicate 17 0)) ∷ []) (0 ∷ 2 ∷ [])
     -- number 4: next of S and S + 1; w of 63 before a page's end, of 64 at it; a count of next - w and one more
     ∷ row 26 (givenTo exampleBoard (stateAt 128 0 0 0) ∷ givenTo exampleBoard (stateAt 129 0 0 0) ∷ []) (0 ∷ 4 ∷ [])
-    ∷ row 27 (givenTo exampleBoard (stateAt 127 63 0 0) ∷ givenTo exampleBoard (stateAt 127 64 0 0) ∷ givenTo exampleBoard (stateAt 128 64 0 0) ∷ [])
+    ∷ row 27 (givenTo exampleBoard (stateAt 127 63 0 0) ∷ givenTo exampleBoard (stateAt 127 64 0 0) ∷ givenTo exampleBoard
+    (stateAt 128 64 0 0) ∷ [])
     (0 ∷ 4 ∷ 4 ∷ [])
     ∷ row 28 (givenTo exampleBoard (stateAt 70 6 64 0) ∷ givenTo exampleBoard (stateAt 70 6 65 0) ∷ []) (0 ∷ 4 ∷ [])
     -- a last reply of M and of M + 1 bytes, and one on RS485
-    ∷ row 29 (givenTo exampleBoard (stateAt 0 0 0 256) ∷ givenTo exampleBoard (stateAt 0 0 0 257) ∷ givenTo (built Rs485 256 128 0 1 []) (stateAt 0 0 0 1) ∷ [])
+    ∷ row 29 (givenTo exampleBoard (stateAt 0 0 0 256) ∷ givenTo exampleBoard (stateAt 0 0 0 257) ∷ givenTo (built Rs485 256 128 0 1 [])
+    (stateAt 0 0 0 1) ∷ [])
     (0 ∷ 4 ∷ 4 ∷ [])
     ∷ []

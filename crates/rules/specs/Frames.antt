@@ -9,7 +9,8 @@ use Rattle.rules.specs.declared.kinds.Bus.the-variants.{I2c, Rs485}
 use Rattle.rules.specs.declared.kinds.Address.{Address}
 use Rattle.rules.specs.declared.kinds.Address.the-variants.{DefaultRange, Own}
 use Rattle.rules.specs.declared.kinds.Verdict.{Verdict}
-use Rattle.rules.specs.declared.kinds.Verdict.the-variants.{Reset, Running, ResetAddress, Short, Long, WrongSum, Foreign, OtherGeneral, BadTransfer, BadSum, Command}
+use Rattle.rules.specs.declared.kinds.Verdict.the-variants.{Reset, Running, ResetAddress, Short, Long, WrongSum, Foreign}
+use Rattle.rules.specs.declared.kinds.Verdict.the-variants.{OtherGeneral, BadTransfer, BadSum, Command}
 use Rattle.rules.specs.Bytes.{same}
 use Rattle.rules.specs.CheckSums.{sum, sumLength, sealed, unsealed, sumRight}
 

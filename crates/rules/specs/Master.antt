@@ -12,7 +12,8 @@ use Rattle.rules.specs.declared.requests.Request.the-variants.{Plain, Se
 use Rattle.rules.specs.declared.requests.Encoded.{Encoded}
 use Rattle.rules.specs.declared.requests.Encoded.the-variants.{Made, FrameOutOfRange, OutputTooShort, ArgumentOutOfRange}
 use Rattle.rules.specs.declared.requests.Decoded.{Decoded}
-use Rattle.rules.specs.declared.requests.Decoded.the-variants.{Reply, NotServed, TooShort, SumWrong, OtherAddress, LengthWrong, StatusUnknown, ResultsMissing}
+use Rattle.rules.specs.declared.requests.Decoded.the-variants.{Reply, NotServed, TooShort, SumWrong, OtherAddress, LengthWrong}
+use Rattle.rules.specs.declared.requests.Decoded.the-variants.{StatusUnknown, ResultsMissing}
 use Rattle.rules.specs.declared.requests.Which.{Which}
 use Rattle.rules.specs.declared.requests.Which.the-variants.{First, Second, Neither}
 use Rattle.rules.specs.declared.requests.Version.{Version}
@@ -79,7 +80,8 @@ readWrong bus M address n = flashAddressOver address || ltb (M - shortestReply b
 -- 7: request argument out of range, with n data bytes
 unfoldable pub argumentWrong : Bus → ℕ → Request → ℕ → ℕ → Bool
 argumentWrong bus M (Plain code) destination n = commandWrong bus M destination code 0
-argumentWrong bus M (SetAddress address hardware) destination n = commandWrong bus M destination 0x01 2 || setAddressWrong bus address hardware
+argumentWrong bus M (SetAddress address hardware) destination n =
+    commandWrong bus M destination 0x01 2 || setAddressWrong bus address hardware
 argumentWrong bus M (Write address) destination n = commandWrong bus M destination 0x06 (2 + n) || flashAddressOver address
 argumentWrong bus M (Read address asked) destination n = commandWrong bus M destination 0x08 3 || readWrong bus M address asked
 argumentWrong bus M ResetAddress destination n = false

@@ -5,7 +5,8 @@ use Prim.Native.Nat.{ℕ, _+_}
 use lib.Dec.{ltb}
 use lib.ListN.{length, drop}
 use Rattle.rules.specs.declared.kinds.Outcome.{Outcome}
-use Rattle.rules.specs.declared.kinds.Outcome.the-variants.{Reply, Nothing, ProfileOutOfRange, FlashTooShort, StateMalformed, BufferTooShort}
+use Rattle.rules.specs.declared.kinds.Outcome.the-variants.{Reply, Nothing, ProfileOutOfRange, FlashTooShort, StateMalformed}
+use Rattle.rules.specs.declared.kinds.Outcome.the-variants.{BufferTooShort}
 use Rattle.rules.specs.Profile.{Profile, inRange}
 use Rattle.rules.specs.State.{State, wellFormed}
 

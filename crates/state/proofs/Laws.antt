@@ -1,5 +1,5 @@
--- The malformed-state rule on the numbers that a state of the code holds: `held` is the length of the waiting bytes that it says, and `len` that of
--- the last reply.
+-- The malformed-state rule on the numbers that a state of the code holds: `held` is the length of the waiting bytes that it says, and `len`
+-- that of the last reply.
 use mathlib.Core.Path.{_≡_, refl}
 use mathlib.Core.Bool.{_&&_}
 use Prim.Native.Nat.{ℕ, _-_, _%_, _≤_}
@@ -31,7 +31,12 @@ upload-held page S u f =
 
 pub held-upload : (page S : ℕ) (u : Upload) → HeldFacts page S u → UploadFacts page S (uploadOf u)
 held-upload page S u f =
-    record { next-most = f .next-most; waiting-most = rw (length-waiting u) (f .held-most); count-most = rw (length-waiting u) (f .count-most) }
+    record {
+      next-most = f .next-most;
+      waiting-most = rw (length-waiting u) (f .held-most);
+      count-most =
+          rw (length-waiting u) (f .count-most);
+    }
 
 -- the rule as a test on the numbers
 pub uploadFormed-held : (page S : ℕ) (u : Upload)

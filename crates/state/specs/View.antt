@@ -1,4 +1,5 @@
--- What a state says: bytes beyond w and beyond the last reply's length mean nothing and are left out. States with equal views count as equal.
+-- What a state says: bytes beyond w and beyond the last reply's length mean nothing and are left out. States with equal views count as
+-- equal.
 use mathlib.Core.Path.{_≡_}
 use mathlib.Core.Bool.{false}
 use mathlib.Core.List.{List}

@@ -1,4 +1,5 @@
--- Both ways of a state: its bytes say it, and bytes that hold one are its bytes, where these mean something. Bytes that hold none are malformed.
+-- Both ways of a state: its bytes say it, and bytes that hold one are its bytes, where these mean something. Bytes that hold none are
+-- malformed.
 use mathlib.Core.Path.{_≡_, refl, sym, ap, _∙_}
 use mathlib.Core.Bool.{true, false, cond, _&&_}
 use mathlib.Core.List.{List, [], _∷_, _++_, append-assoc}
@@ -19,10 +20,12 @@ use Rattle.state.proofs.Laws.{upload-held, length-last}
 use Rattle.state.specs.declared.State.{State}
 use Rattle.state.specs.View.{page, largestFrame, view}
 use Rattle.fields.specs.Fields.{Bytes, part, fourAt, fourBytes}
-use Rattle.state_bytes.specs.StateBytes.{stateSize, stateHeld, stateSaid, noState, stateAt, kindByte, ownByte, runningByte, headBytes, stateBytes, stateWritten}
+use Rattle.state_bytes.specs.StateBytes.{stateSize, stateHeld, stateSaid, noState, stateAt, kindByte, ownByte, runningByte, headBytes}
+use Rattle.state_bytes.specs.StateBytes.{stateBytes, stateWritten}
 use Rattle.state_bytes.specs.BothWays.{StateFits}
 use Rattle.fields.proofs.Laws.{&&-true, drop-four, fourAt-fourBytes, part-four, part-more, overlay-first, overlay-laid, laid-part}
-use Rattle.state_bytes.proofs.FlagLaws.{addressOf-bytes, kindByte-addressOf, ownByte-addressOf, running-byte, runningByte-byte, kindByte-most, runningByte-most}
+use Rattle.state_bytes.proofs.FlagLaws.{addressOf-bytes, kindByte-addressOf, ownByte-addressOf, running-byte, runningByte-byte}
+use Rattle.state_bytes.proofs.FlagLaws.{kindByte-most, runningByte-most}
 
 said-at : (b : List ℕ) → stateHeld b ≡ true → stateAt b ≡ stateSaid b
 unfolding stateAt
@@ -36,7 +39,8 @@ pub written-short : (s : State) (b : List ℕ) → length b < stateSize → stat
 unfolding stateWritten
 written-short s b h = rw (lt-leb _ _ h)
 
-pub length-stateBytes : (s : State) → length (s .upload .waiting) ≡ page → length (s .last .bytes) ≡ largestFrame → length (stateBytes s) ≡ stateSize
+pub length-stateBytes : (s : State) → length (s .upload .waiting) ≡ page → length (s .last .bytes) ≡ largestFrame
+    → length (stateBytes s) ≡ stateSize
 unfolding stateBytes
 length-stateBytes s waiting bytes = omega (arith, length-append (s .upload .waiting) (s .last .bytes))
 
@@ -120,7 +124,8 @@ module _ (s : State) (rest : List ℕ) (fits : StateFits s) where
       )
 
 -- next is at most S, w and the count at most next, a last reply at most M
-pub state-fits : (p : rules.Profile) (s : State) → length (s .upload .waiting) ≡ page → length (s .last .bytes) ≡ largestFrame → inRange p ≡ true
+pub state-fits : (p : rules.Profile) (s : State) → length (s .upload .waiting) ≡ page → length (s .last .bytes) ≡ largestFrame
+    → inRange p ≡ true
     → wellFormed p (view s) ≡ true → StateFits s
 state-fits p s waiting bytes range formed =
     let sizes = inRange-facts p range in
@@ -151,7 +156,8 @@ said-bytes b bytes long =
     let reply : List ℕ = part b 84 largestFrame in
     ap (λ (l : List ℕ). l ++ fourBytes (fourAt b 8) ++ fourBytes (fourAt b 12) ++ fourBytes (fourAt b 16) ++ waiting ++ reply)
     (part-four front b 4 0 bytes (omega arith))
-    ∙ ap (λ (l : List ℕ). l ++ fourBytes (fourAt b 12) ++ fourBytes (fourAt b 16) ++ waiting ++ reply) (part-four front b 4 4 bytes (omega arith))
+    ∙ ap (λ (l : List ℕ). l ++ fourBytes (fourAt b 12) ++ fourBytes (fourAt b 16) ++ waiting ++ reply)
+    (part-four front b 4 4 bytes (omega arith))
     ∙ ap (λ (l : List ℕ). l ++ fourBytes (fourAt b 16) ++ waiting ++ reply) (part-four front b 4 8 bytes (omega arith))
     ∙ ap (λ (l : List ℕ). l ++ waiting ++ reply) (part-four front b 4 12 bytes (omega arith))
     ∙ ap (λ (l : List ℕ). l ++ reply) (part-more front b 4 16 page)
@@ -171,7 +177,11 @@ state-kept b bytes held =
     ∙ ap (λ (s : State). laid (stateBytes s) b) (said-at b held)
     ∙ ap (λ (l : List ℕ). laid l b) (said-bytes b bytes long)
     ∙ laid-part front b 336 (omega arith)
-    ∙ rw (kindByte-addressOf (getD b 0 0) (getD b 1 0) kind, ownByte-addressOf (getD b 0 0) (getD b 1 0) kind, runningByte-byte (getD b 2 0) running)
+    ∙ rw (
+      kindByte-addressOf (getD b 0 0) (getD b 1 0) kind,
+      ownByte-addressOf (getD b 0 0) (getD b 1 0) kind,
+      runningByte-byte (getD b 2 0) running,
+    )
     (sym (ap (λ (l : List ℕ). set (set l 3 0) 1 own) (drop-four b 0 (omega arith))))
 
 pub state-malformed : (p : rules.Profile) (b : List ℕ) → stateHeld b ≡ false → wellFormed p (view (stateAt b)) ≡ false

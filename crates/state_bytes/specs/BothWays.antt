@@ -23,7 +23,8 @@ pub record StateFits (s : State) : Type 0 where
 
 pub record BothWays : Type 0 where
   -- every state that is well formed under a profile in range fits; its arrays have 64 and 256 bytes
-  pub state-fits : (p : Profile) (s : State) → length (s .upload .waiting) ≡ page → length (s .last .bytes) ≡ largestFrame → inRange p ≡ true
+  pub state-fits : (p : Profile) (s : State) → length (s .upload .waiting) ≡ page → length (s .last .bytes) ≡ largestFrame
+      → inRange p ≡ true
       → wellFormed p (view s) ≡ true → StateFits s
   -- a state that was written is read back, every field and every buffer byte
   pub state-read : (s : State) (b : List ℕ) → StateFits s → stateSize ≤ length b → stateAt (stateWritten s b) ≡ s

@@ -12,7 +12,8 @@ ghost use lib.ListN.{length};
 ghost use Rattle.rules.specs.Numbers.{laid};
 ghost use Rattle.fields.specs.Fields.{part};
 ghost use Rattle.state_bytes.specs.BothWays.{BothWays};
-ghost use Rattle.state_bytes.specs.StateBytes.{stateSize, stateSaid, noState, stateAt, addressOf, kindByte, ownByte, runningByte, headBytes, stateWritten};
+ghost use Rattle.state_bytes.specs.StateBytes.{stateSize, stateSaid, noState, stateAt, addressOf, kindByte, ownByte, runningByte};
+ghost use Rattle.state_bytes.specs.StateBytes.{headBytes, stateWritten};
 
 // How many bytes a state takes.
 pub const STATE_BYTES: usize = 340;

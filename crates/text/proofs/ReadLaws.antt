@@ -12,7 +12,8 @@ use lib.Seq.{drop-cons}
 use Rattle.text.specs.declared.read.Parsed.{Parsed}
 use Rattle.text.specs.declared.read.Field.{Field}
 use Rattle.text.specs.declared.read.Parsed.the-variants.{Value, Wrong}
-use Rattle.text.specs.Read.{space, before, Found, fieldAt, fieldEnd, fieldOf, digitValue, spelled, numberOf, readNumber, numbersAt, placeAfter, hexRight, pairValue, hexBytes, isDash, bytesOf, bytesLaid, BytesRead}
+use Rattle.text.specs.Read.{space, before, Found, fieldAt, fieldEnd, fieldOf, digitValue, spelled, numberOf, readNumber, numbersAt}
+use Rattle.text.specs.Read.{placeAfter, hexRight, pairValue, hexBytes, isDash, bytesOf, bytesLaid, BytesRead}
 
 -- one byte, and what is left after it
 pub drop-one : (s : List ℕ) (i : ℕ) → i < length s → drop i s ≡ getD s i 0 ∷ drop (i + 1) s
@@ -46,7 +47,8 @@ unfolding before
 take-before b [] = refl
 take-before b (x ∷ l) = by (eqb x b) (take-before b l)
   where
-    by : (t : Bool) → take (length (before b l)) l ≡ before b l → take (length (cond t [] (x ∷ before b l))) (x ∷ l) ≡ cond t [] (x ∷ before b l)
+    by : (t : Bool) → take (length (before b l)) l ≡ before b l
+        → take (length (cond t [] (x ∷ before b l))) (x ∷ l) ≡ cond t [] (x ∷ before b l)
     by true e = refl
     by false e = ap (λ (r : List ℕ). x ∷ r) e
 
@@ -105,7 +107,8 @@ module _ (most : ℕ) (s : List ℕ) (at n i : ℕ) (f : Field) (more : i < n) (
   placeAfter-next = rw (left, read)
 
 -- the pairs from place i on, where the two bytes there have the values d and e
-module _ (s : List ℕ) (i d e : ℕ) (inside : i + 1 < length s) (first : d ≡ digitValue (getD s i 0)) (second : e ≡ digitValue (getD s (i + 1) 0)) where
+module _ (s : List ℕ) (i d e : ℕ) (inside : i + 1 < length s) (first : d ≡ digitValue (getD s i 0))
+    (second : e ≡ digitValue (getD s (i + 1) 0)) where
   -- one pair further
   pub hexRight-next : d ≤ 15 → e ≤ 15 → hexRight (drop i s) ≡ hexRight (drop (i + 2) s)
   unfolding hexRight

@@ -37,7 +37,8 @@ fn address_taken(bus: Bus, address: u8) -> u8
 // 0x01 set address: address, type (own or 0, else silence).
 pub fn set_address(p: Profile, s: State, args: &[u8], out: &mut [u8], at: usize) -> Done
     requires { ⌜ (length (now args) ≡ 2) × (at ≤ length (now out)) ⌝ }
-    ensures { λ r. ⌜ ((d : List ℕ) → commandEffect r d (now (out .exit)) ≡ ruledCommand (setAddress (profileOf p) (view s) (now (args .entry)) d) (now (out .entry)) at) ⌝ }
+    ensures { λ r. ⌜ ((d : List ℕ) → commandEffect r d (now (out .exit))
+        ≡ ruledCommand (setAddress (profileOf p) (view s) (now (args .entry)) d) (now (out .entry)) at) ⌝ }
 {
     if !type_matches(p.hardware, args[1]) {
         return Done {

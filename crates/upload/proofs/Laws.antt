@@ -38,7 +38,8 @@ module _ (page n k : ℕ) (fits : n % page + k ≤ page) where
       omega arith
 
 module _ (p : rules.Profile) (g : Progress) where
-  pub takenAll-appended : (xs : List ℕ) → g .upload .next % p .page + length xs ≤ p .page → ((g .upload .next + length xs) % p .page ≡ 0 → ⊥)
+  pub takenAll-appended : (xs : List ℕ) → g .upload .next % p .page + length xs ≤ p .page
+      → ((g .upload .next + length xs) % p .page ≡ 0 → ⊥)
       → takenAll p g xs ≡ appended g xs
   takenAll-appended xs fits left = takenAll-below p g xs (mod-below (p .page) (g .upload .next) (length xs) fits left)
 
@@ -91,7 +92,8 @@ cond-raise false n = refl
 abbrev pub emptied : Upload → ℕ → Upload
 emptied u count = record { next = u .next; held = 0; count = count; waiting = u .waiting }
 
-pub committed-counted : (p : Profile) (u : Upload) {count : ℕ} {d d′ : List ℕ} → Fitting (profileOf p) (progressOf u d) → u .held ≤ length (u .waiting)
+pub committed-counted : (p : Profile) (u : Upload) {count : ℕ} {d d′ : List ℕ} → Fitting (profileOf p) (progressOf u d)
+    → u .held ≤ length (u .waiting)
     → CommitCounted d (p .offset + (u .next - u .held)) (take (u .held) (u .waiting)) (u .count) count d′
     → committed (profileOf p) (progressOf u d) ≡ progressOf (emptied u count) d′
 committed-counted p u {count} {d} fits long settled =
@@ -117,7 +119,8 @@ pub kept-upload : (p : Profile) (u : Upload) {d d₀ : List ℕ} {g : Progress} 
 kept-upload p u e kept = subst (λ (g : Progress). UploadFacts page (p .size) (g .upload)) (sym e) (kept .formed)
 
 module _ {p : Profile} {u : Upload} (d : List ℕ) (ready : Ready p u (length d)) where
-  pub ready-taken : (bytes : List ℕ) → u .next + length bytes ≤ p .size → Kept (profileOf p) d (takenAll (profileOf p) (progressOf u d) bytes)
+  pub ready-taken : (bytes : List ℕ) → u .next + length bytes ≤ p .size
+      → Kept (profileOf p) d (takenAll (profileOf p) (progressOf u d) bytes)
   ready-taken bytes fits =
       let b = ready-bounds ready in
       takenAll-kept (profileOf p) (b .profile) (progressOf u d) bytes (ready .flash-holds) (b .upload) fits

@@ -16,7 +16,8 @@ use Rattle.state.proofs.Laws.{HeldFacts, upload-held}
 use Rattle.profile.specs.declared.Profile.{Profile}
 use Rattle.profile.specs.View.{profileOf}
 use Rattle.upload.specs.Progress.{progressOf, Ready, Part, CommitCounted}
-use Rattle.upload.proofs.Laws.{takenAll-appended, takenAll-committed, used-overlay, ready-bounds, emptied, fitting, committed-counted, kept-upload, ready-taken}
+use Rattle.upload.proofs.Laws.{takenAll-appended, takenAll-committed, used-overlay, ready-bounds, emptied, fitting}
+use Rattle.upload.proofs.Laws.{committed-counted, kept-upload, ready-taken}
 
 -- u and d are what the first i bytes make of u₀ and d₀
 pub record Reached (p : Profile) (u₀ : Upload) (d₀ bytes : List ℕ) (i : ℕ) (u : Upload) (d : List ℕ) : Type 0 where
@@ -28,7 +29,8 @@ pub record Reached (p : Profile) (u₀ : Upload) (d₀ bytes : List ℕ) (i : �
   pub held : HeldFacts page (p .size) u
   pub flash-length : length d ≡ length d₀
 
-module _ {p : Profile} {u₀ : Upload} (d₀ : List ℕ) (ready : Ready p u₀ (length d₀)) (bytes : List ℕ) (fits : u₀ .next + length bytes ≤ p .size) where
+module _ {p : Profile} {u₀ : Upload} (d₀ : List ℕ) (ready : Ready p u₀ (length d₀)) (bytes : List ℕ)
+    (fits : u₀ .next + length bytes ≤ p .size) where
   pub reached : (i : ℕ) (u : Upload) {d : List ℕ} → i ≤ length bytes → length (u .waiting) ≡ page
       → progressOf u d ≡ takenAll (profileOf p) (progressOf u₀ d₀) (take i bytes) → Reached p u₀ d₀ bytes i u d
   reached i u most buffer e =
@@ -59,7 +61,8 @@ module _ {p : Profile} {u₀ : Upload} {d₀ bytes : List ℕ} {i : ℕ} {u : Up
   length-part = length-take-le n (drop i bytes) (simp length-drop (part .within))
 
   -- the part, taken from where the first i bytes lead
-  takenAll-part : takenAll (profileOf p) (progressOf u d) (take n (drop i bytes)) ≡ takenAll (profileOf p) (progressOf u₀ d₀) (take (i + n) bytes)
+  takenAll-part : takenAll (profileOf p) (progressOf u d) (take n (drop i bytes))
+      ≡ takenAll (profileOf p) (progressOf u₀ d₀) (take (i + n) bytes)
   takenAll-part =
       ap (λ (g : Progress). takenAll (profileOf p) g (take n (drop i bytes))) (before .progress)
       ∙ sym (takenAll-append (profileOf p) (progressOf u₀ d₀) (take i bytes) (take n (drop i bytes)))
@@ -88,7 +91,8 @@ module _ {p : Profile} {u₀ : Upload} {d₀ bytes : List ℕ} {i : ℕ} {u : Up
     turn-appended short =
         reached d₀ ready bytes fits (i + n) (filled u n ws) (omega arith) buffer-stored
         (filled-appended
-        ∙ sym (takenAll-appended (profileOf p) (progressOf u d) (take n (drop i bytes)) (rw length-part (part .in-page)) (rw length-part short))
+        ∙ sym (takenAll-appended (profileOf p) (progressOf u d) (take n (drop i bytes)) (rw length-part (part .in-page))
+        (rw length-part short))
         ∙ takenAll-part)
 
     -- a part that ends with its page: the page is committed
@@ -98,9 +102,11 @@ module _ {p : Profile} {u₀ : Upload} {d₀ bytes : List ℕ} {i : ℕ} {u : Up
     turn-committed {count} whole settled =
         let place = sub-mod page (u .next) (u .held) (omega arith) (before .held .held-most) in
         let shift : u .next + n - (u .held + n) ≡ u .next - u .held = omega arith in
-        let lies = fitting p (filled u n ws) d (ready-bounds ready .profile) (omega arith) (omega arith) (omega arith) (rw shift (omega arith)) in
+        let lies =
+        fitting p (filled u n ws) d (ready-bounds ready .profile) (omega arith) (omega arith) (omega arith) (rw shift (omega arith)) in
         reached d₀ ready bytes fits (i + n) (emptied (filled u n ws) count) (omega arith) buffer-stored
         (sym (committed-counted p (filled u n ws) lies (rw buffer-stored (omega arith)) settled)
         ∙ ap (committed (profileOf p)) filled-appended
-        ∙ sym (takenAll-committed (profileOf p) (progressOf u d) (take n (drop i bytes)) (rw length-part (part .in-page)) (rw length-part (part .some)) (rw length-part whole))
+        ∙ sym (takenAll-committed (profileOf p) (progressOf u d) (take n (drop i bytes)) (rw length-part (part .in-page))
+        (rw length-part (part .some)) (rw length-part whole))
         ∙ takenAll-part)

@@ -26,24 +26,26 @@ take-rest args k = take-all (length args - k) (drop k args) (rw length-drop (ome
 
 module _ (p : Profile) (s : State) (n m at : ℕ) (serving : Serving p s n m at) where
   pub upload-formed : uploadFormed page (p .size) (uploadOf (s .upload)) ≡ true
-  upload-formed = facts-uploadFormed page (p .size) (uploadOf (s .upload)) (serving .sound .state .upload)
+  upload-formed = facts-uploadFormed page (p .size) (uploadOf (s .upload)) (serving .unrefused .state .upload)
 
   -- an upload that is formed goes on
   pub ready : (u : Upload) → uploadFormed page (p .size) (uploadOf u) ≡ true → Ready p u n
-  ready u formed = record { in-range = serving .sound .in-range; flash-holds = serving .sound .flash-holds; formed = formed }
+  ready u formed = record { in-range = serving .unrefused .in-range; flash-holds = serving .unrefused .flash-holds; formed = formed }
 
   -- the erase count fits two bytes
   pub count-most : (u : Upload) (next : ℕ) → Formed p u next → u .count ≤ 65535
   count-most u next formed =
       let f = uploadFormed-facts page (p .size) (uploadOf u) (formed .formed) in
-      omega (arith, f .count-most, f .next-most, serving .sound .profile .size-most)
+      omega (arith, f .count-most, f .next-most, serving .unrefused .profile .size-most)
 
 -- an upload that begins anew, or goes on, is formed
 pub restarted-formed : (P S a : ℕ) (u : rules.Upload) → uploadFormed P S u ≡ true → uploadFormed P S (restarted a u) ≡ true
 restarted-formed P S a u formed = go (eqb a 0) refl
   where
     go : (b : Bool) → eqb a 0 ≡ b → uploadFormed P S (restarted a u) ≡ true
-    go true e = rw e (facts-uploadFormed P S rules.freshUpload (record { next-most = omega arith; waiting-most = omega arith; count-most = omega arith }))
+    go true e =
+        rw e (facts-uploadFormed P S rules.freshUpload
+        (record { next-most = omega arith; waiting-most = omega arith; count-most = omega arith }))
     go false e = rw e formed
 
 -- an accepted write's data follow the bytes that the upload has then, within S

@@ -43,7 +43,8 @@ pub fn write(p: Profile, s: State, args: &[u8], flash: &mut [u8], out: &mut [u8]
     requires { ⌜ Serving p s (length (now flash)) (length (now out)) at ⌝ }
     requires { ⌜ 2 ≤ length (now args) ⌝ }
     ensures { λ r.
-        ⌜ commandEffect r (now (flash .exit)) (now (out .exit)) ≡ ruledCommand (written (profileOf p) (view s) (now (args .entry)) (now (flash .entry))) (now (out .entry)) at ⌝ }
+        ⌜ commandEffect r (now (flash .exit)) (now (out .exit))
+        ≡ ruledCommand (written (profileOf p) (view s) (now (args .entry)) (now (flash .entry))) (now (out .entry)) at ⌝ }
 {
     let address = wide(args[0]) * 256 + wide(args[1]);
     let upload = s.upload;
@@ -59,7 +60,8 @@ pub fn write(p: Profile, s: State, args: &[u8], flash: &mut [u8], out: &mut [u8]
 pub fn finalize(p: Profile, s: State, flash: &mut [u8], out: &mut [u8], at: usize) -> Done
     requires { ⌜ Serving p s (length (now flash)) (length (now out)) at ⌝ }
     ensures { λ r.
-        ⌜ commandEffect r (now (flash .exit)) (now (out .exit)) ≡ ruledCommand (finished (profileOf p) (view s) (now (flash .entry))) (now (out .entry)) at ⌝ }
+        ⌜ commandEffect r (now (flash .exit)) (now (out .exit))
+        ≡ ruledCommand (finished (profileOf p) (view s) (now (flash .entry))) (now (out .entry)) at ⌝ }
 {
     let upload = s.upload;
     let finalized = upload::finalize(p, upload, flash);

@@ -7,7 +7,8 @@ use lib.Dec.{eqb}
 use lib.ListN.{length}
 use borrow.Author.Tests.{eqb-true}
 use Rattle.rules.specs.declared.kinds.Verdict.{Verdict}
-use Rattle.rules.specs.declared.kinds.Verdict.the-variants.{Reset, Running, ResetAddress, Short, Long, WrongSum, Foreign, OtherGeneral, BadTransfer, BadSum, Command}
+use Rattle.rules.specs.declared.kinds.Verdict.the-variants.{Reset, Running, ResetAddress, Short, Long, WrongSum, Foreign, OtherGeneral}
+use Rattle.rules.specs.declared.kinds.Verdict.the-variants.{BadTransfer, BadSum, Command}
 use Rattle.rules.specs.Profile.{Profile}
 use Rattle.rules.specs.State.{State}
 use Rattle.rules.specs.Numbers.{refusal}
@@ -59,7 +60,8 @@ distinguished p s code args d k x y here there = go (eqb code k) refl (lengthAll
     go false e true h = there
     go false e false h = there
 
-committing-committed : (p : Profile) (s : State) (code : ℕ) (args d : List ℕ) → committing committed p s code args d ≡ executed p s code args d
+committing-committed : (p : Profile) (s : State) (code : ℕ) (args d : List ℕ)
+    → committing committed p s code args d ≡ executed p s code args d
 unfolding executed performed tabled finished finalized
 committing-committed p s code args d =
     distinguished p s code args d 0x06 _ _ (λ h. rw h (written-by p s args d)) (distinguished p s code args d 0x07 _ _ (λ h. rw h) refl)
@@ -75,7 +77,8 @@ handlingBy-same j k e p s d (Read a n) = refl
 handlingBy-executed : (p : Profile) (s : State) (d : List ℕ) (c : Call) → handlingBy (executing executed) p s d c ≡ calls p s d c
 handlingBy-executed p s d c = handlingBy-same (executing executed) handled executing-executed p s d c ∙ handlingBy-handled p s d c
 
-executing-committed : (p : Profile) (s : State) (a : ℕ) (f d : List ℕ) (v : Verdict) → executing (committing committed) p s a f d v ≡ executing executed p s a f d v
+executing-committed : (p : Profile) (s : State) (a : ℕ) (f d : List ℕ) (v : Verdict)
+    → executing (committing committed) p s a f d v ≡ executing executed p s a f d v
 executing-committed p s a f d v =
     ap (λ (x : Acted). cond (isCommand v) (finishedCall (p .bus) (destination (p .bus) a f) x) (handled p s a f d v))
     (committing-committed p s (commandOf (p .bus) f) (argumentsOf (p .bus) f) d)
@@ -84,5 +87,7 @@ pub varied-right : VariedRight
 varied-right = record {
   by-judgement = handlingBy-handled;
   by-rule = handlingBy-executed;
-  by-commit = λ p s d c. handlingBy-same (executing (committing committed)) (executing executed) executing-committed p s d c ∙ handlingBy-executed p s d c;
+  by-commit =
+      λ p s d c. handlingBy-same (executing (committing committed)) (executing executed) executing-committed p s d c
+      ∙ handlingBy-executed p s d c;
 }

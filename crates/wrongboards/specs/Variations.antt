@@ -53,7 +53,8 @@ module _ (commit : Commit) where
   abbrev pub takenBy : Profile → Progress → ℕ → Progress
   takenBy p g b =
       let u : Upload = g .upload in
-      let more : Progress = record { upload = record { next = u .next + 1; waiting = u .waiting ++ (b ∷ []); count = u .count }; flash = g .flash } in
+      let more : Progress =
+      record { upload = record { next = u .next + 1; waiting = u .waiting ++ (b ∷ []); count = u .count }; flash = g .flash } in
       cond (eqb ((u .next + 1) % p .page) 0) (commit p more) more
 
   abbrev pub takenAllBy : Profile → Progress → List ℕ → Progress

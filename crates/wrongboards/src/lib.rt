@@ -4,7 +4,9 @@ ghost use Prim.Native.Nat.{ℕ};
 ghost use Rattle.ledger.specs.Claim.{Demand3};
 ghost use Rattle.demands.specs.Acceptance.{Demand2};
 ghost use Rattle.wrongboards.specs.Variations.{VariedRight};
-ghost use Rattle.wrongboards.specs.WrongBoards.{refusesWrites, okToAll, runsAfterWrite, keepsFlash, firstPageOnly, inventsCount, fixedReply, padsLastPage, takesHalf, invalidCrcSent, countsUnchanged, finalizesOnStart};
+ghost use Rattle.wrongboards.specs.WrongBoards.{refusesWrites, okToAll, runsAfterWrite, keepsFlash, firstPageOnly, inventsCount};
+ghost use Rattle.wrongboards.specs.WrongBoards.{fixedReply, padsLastPage, takesHalf, invalidCrcSent, countsUnchanged};
+ghost use Rattle.wrongboards.specs.WrongBoards.{finalizesOnStart};
 
 // The variations that the wrong boards are made by are right themselves: with the rules' own parts they are the board of the rules.
 pub fn varied_right()

@@ -17,7 +17,9 @@ answers-to-requires c κs = search needs
 
 returns-2 : tie.Need-returns-2
 unfolding addressed
-returns-2 c = rw (ne-eqb _ _ (c .before .before .before .if1 .left), ← c .before .before .address-fits .ensures, c .before .if2 .taken) (c .answers-to .ensures)
+returns-2 c =
+    rw (ne-eqb _ _ (c .before .before .before .if1 .left), ← c .before .before .address-fits .ensures, c .before .if2 .taken)
+    (c .answers-to .ensures)
 
 returns-3 : tie.Need-returns-3
 unfolding addressed

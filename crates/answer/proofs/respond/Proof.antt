@@ -1,4 +1,5 @@
--- `answer::respond` meets its contract: the reply is closed around the results, and the state keeps it on I²C. By `with-reply-ruled` and `no-reply-ruled`.
+-- `answer::respond` meets its contract: the reply is closed around the results, and the state keeps it on I²C. By `with-reply-ruled` and
+-- `no-reply-ruled`.
 use Rattle.answer.proofs.RespondLaws.{with-reply-ruled, no-reply-ruled}
 use Rattle.answer.specs.Answered.{Fits}
 use Rattle.response.specs.declared.Response.{Response}
@@ -62,13 +63,15 @@ returns c =
     let st = m .before .before .before .before in
     let fits = rw (m .response .given .1) at (st .pre) in
     λ a d o long acted.
-    with-reply-ruled (st .args .bus) (st .args .to) _ _ _ (st .args .done) _ d o (st .args .out .now) _ a (m .response .given .1) long acted (fits .1) (l .close .ensures) (c .with-reply .ensures)
+    with-reply-ruled (st .args .bus) (st .args .to) _ _ _ (st .args .done) _ d o (st .args .out .now) _ a (m .response .given .1) long
+    acted (fits .1) (l .close .ensures) (c .with-reply .ensures)
 
 returns-2 : tie.Need-returns-2
 returns-2 c =
     let st = c .before .before .before .before .before in
     λ a d o long acted.
-    no-reply-ruled (st .args .bus) (st .args .to) (st .args .done) _ d o (st .args .out .now) a (c .before .enum-told .given .1) acted (c .without-reply .ensures (st .args .bus))
+    no-reply-ruled (st .args .bus) (st .args .to) (st .args .done) _ d o (st .args .out .now) a (c .before .enum-told .given .1) acted
+    (c .without-reply .ensures (st .args .bus))
 
 pub respond-spec : {M : Type 1} → statement M
 respond-spec =

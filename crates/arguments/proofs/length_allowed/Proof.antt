@@ -26,7 +26,8 @@ wide-requires-2 c κs = search needs
 returns : tie.Need-returns
 returns c =
     let row = c .before .before .before .row .ensures in
-    let shortest : tabled (c .before .before .before .before .args .code) 1 ≤ c .before .before .before .before .args .n = omega (arith, row 1) in
+    let shortest : tabled (c .before .before .before .before .args .code) 1 ≤ c .before .before .before .before .args .n =
+    omega (arith, row 1) in
     rw (le-leb _ _ shortest, ← row 2, c .wide2 .ensures .0)
 
 returns-2 : tie.Need-returns-2

@@ -88,15 +88,19 @@ serve-requires : tie.Need-serve-requires
 serve-requires c κs =
     let e = c .before .before in
     let j = e .before .before in
-    let st = j .before .before .before .before in
-    (st .pre, command-long (st .args .p .bus) (st .args .p .longest) (st .args .s .running) (st .args .s .address) (st .args .address) (st .args .frame .now) (sym (j .classify .ensures) ∙ e .enum-told11 .given .1))
+    let st = j .before .before .before .before in (
+      st .pre,
+      command-long (st .args .p .bus) (st .args .p .longest) (st .args .s .running) (st .args .s .address) (st .args .address)
+          (st .args .frame .now) (sym (j .classify .ensures) ∙ e .enum-told11 .given .1),
+    )
 
 returns : tie.Need-returns
 unfolding handled
 returns c =
     let j = c .before .before .before .before in
     let st = j .before .before .before .before in
-    rw (← j .classify .ensures, c .before .before .enum-told .given .1) (rw (c .before .fresh .ensures .viewed) at (c .no-reply .ensures (st .args .flash .now) (st .args .out .now)))
+    rw (← j .classify .ensures, c .before .before .enum-told .given .1)
+    (rw (c .before .fresh .ensures .viewed) at (c .no-reply .ensures (st .args .flash .now) (st .args .out .now)))
 
 returns-2 : tie.Need-returns-2
 unfolding handled
@@ -110,7 +114,8 @@ unfolding handled
 returns-3 c =
     let j = c .before .before .before .before in
     let st = j .before .before .before .before in
-    rw (← j .classify .ensures, c .before .before .enum-told3 .given .1) (rw (c .before .address-reset .ensures) at (c .no-reply3 .ensures (st .args .flash .now) (st .args .out .now)))
+    rw (← j .classify .ensures, c .before .before .enum-told3 .given .1)
+    (rw (c .before .address-reset .ensures) at (c .no-reply3 .ensures (st .args .flash .now) (st .args .out .now)))
 
 returns-4 : tie.Need-returns-4
 unfolding handled
@@ -156,7 +161,8 @@ returns-9 c =
     let t = c .before .before .before .before in
     let j = t .before .before .before in
     let st = j .before .before .before .before in
-    rw (← j .classify .ensures, t .before .enum-told9 .given .1, ← t .destination .ensures) (c .before .before .fault .ensures (st .args .flash .now))
+    rw (← j .classify .ensures, t .before .enum-told9 .given .1, ← t .destination .ensures)
+    (c .before .before .fault .ensures (st .args .flash .now))
 
 same-length-2 : tie.Need-same-length-2
 same-length-2 c = search needs
@@ -167,7 +173,8 @@ returns-10 c =
     let t = c .before .before .before .before in
     let j = t .before .before .before in
     let st = j .before .before .before .before in
-    rw (← j .classify .ensures, t .before .enum-told10 .given .1, ← t .destination2 .ensures) (c .before .before .fault2 .ensures (st .args .flash .now))
+    rw (← j .classify .ensures, t .before .enum-told10 .given .1, ← t .destination2 .ensures)
+    (c .before .before .fault2 .ensures (st .args .flash .now))
 
 same-length-3 : tie.Need-same-length-3
 same-length-3 c = search needs

@@ -44,7 +44,8 @@ handle-requires c κs =
     let e = c .before .before in
     let f = e .before .before in
     let st = f .before .before .before .before in
-    refusal-unrefused _ _ _ _ (check-passed (profileOf (st .args .p)) (view (st .args .s)) (length (st .args .flash .now)) (length (st .args .out .now)) (sym (f .refuse .ensures) ∙ e .enum-told .given .1))
+    refusal-unrefused _ _ _ _ (check-passed (profileOf (st .args .p)) (view (st .args .s)) (length (st .args .flash .now))
+    (length (st .args .out .now)) (sym (f .refuse .ensures) ∙ e .enum-told .given .1))
 
 same-length : tie.Need-same-length
 same-length c = search needs
@@ -60,9 +61,11 @@ returns-2 c =
     let st = f .before .before .before .before in
     let p = profileOf (st .args .p) in
     let s = view (st .args .s) in
-    let none = check-passed p s (length (st .args .flash .now)) (length (st .args .out .now)) (sym (f .refuse .ensures) ∙ e .enum-told .given .1) in
+    let none =
+    check-passed p s (length (st .args .flash .now)) (length (st .args .out .now)) (sym (f .refuse .ensures) ∙ e .enum-told .given .1) in
     rw (received-handled p s (st .args .flash .now) (st .args .address) (st .args .frame .now) (length (st .args .out .now)) none)
-    (answered (st .args .s) _ _ _ _ _ (j .handle .ensures) (handled-number p s (st .args .address) (st .args .frame .now) (st .args .flash .now) _))
+    (answered (st .args .s) _ _ _ _ _ (j .handle .ensures)
+    (handled-number p s (st .args .address) (st .args .frame .now) (st .args .flash .now) _))
 
 pub receive-spec : {M : Type 1} → statement M
 receive-spec =

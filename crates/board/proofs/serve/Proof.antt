@@ -59,7 +59,8 @@ respond-requires : tie.Need-respond-requires
 respond-requires c κs =
     let o = c .before .before .before .before .before .before in
     let st = o .before .before .before .before .before .before .before .before .before .before .before in
-    fits-served (profileOf (st .args .p)) (view (st .args .s)) _ _ (st .args .flash .now) _ _ _ (st .pre .0) refl (o .execute .kept .1 .1 .1 .1 .1 .0) _ (ap (λ (x : buffered.CommandEffect). x .response) (o .execute .ensures))
+    fits-served (profileOf (st .args .p)) (view (st .args .s)) _ _ (st .args .flash .now) _ _ _ (st .pre .0) refl
+    (o .execute .kept .1 .1 .1 .1 .1 .0) _ (ap (λ (x : buffered.CommandEffect). x .response) (o .execute .ensures))
 
 same-length : tie.Need-same-length
 same-length c = search needs
@@ -79,10 +80,13 @@ returns c =
     let p = st .args .p in
     let f = st .args .frame .now in
     let place : w .wide .result ≡ commandOf (p .bus) f = w .wide .ensures .0 ∙ ap (λ (n : ℕ). getD f n 0) (h .header-length .ensures) in
-    let cut : take (length f - sumLength (p .bus) - (headerLength (p .bus) + 1)) (drop (headerLength (p .bus) + 1) f) ≡ argumentsOf (p .bus) f =
+    let cut : take (length f - sumLength (p .bus) - (headerLength (p .bus) + 1)) (drop (headerLength (p .bus) + 1) f)
+    ≡ argumentsOf (p .bus) f =
     take-drop (headerLength (p .bus) + 1) (length f - sumLength (p .bus)) f (omega (arith, st .pre .1)) (omega arith) in
     let acted = rw (h .header-length .ensures, l .sum-length .ensures, place, cut) at (o .execute .ensures) in
-    rw (← t .destination .ensures) (r .respond .ensures (executed (profileOf p) (view (st .args .s)) (commandOf (p .bus) f) (argumentsOf (p .bus) f) (st .args .flash .now)) _ (st .args .out .now) (omega arith) acted)
+    rw (← t .destination .ensures) (r .respond .ensures
+    (executed (profileOf p) (view (st .args .s)) (commandOf (p .bus) f) (argumentsOf (p .bus) f) (st .args .flash .now))
+    _ (st .args .out .now) (omega arith) acted)
 
 pub serve-spec : {M : Type 1} → statement M
 serve-spec =

@@ -29,7 +29,8 @@ one-line-requires c κs = search needs
 
 same-length : tie.Need-same-length
 same-length c =
-    c .before .before .before .before .before .before .before .before .before .before .before .before .before .before .before .before .before .before .before .before .before .filled .kept .0
+    c .before .before .before .before .before .before .before .before .before .before .before .before .before .before .before .before
+    .before .before .before .before .before .filled .kept .0
 
 same-length-2 : tie.Need-same-length-2
 same-length-2 c = search needs

@@ -27,7 +27,8 @@ unfolding executed
 returns c =
     let t = c .before .before .before .before .before in
     let st = t .before .before .before .before .before in
-    rw (← t .before .served .ensures, not-true (t .before .served .result) (t .if1 .taken)) (c .before .before .reply .ensures (st .args .flash .now))
+    rw (← t .before .served .ensures, not-true (t .before .served .result) (t .if1 .taken))
+    (c .before .before .reply .ensures (st .args .flash .now))
 
 length-allowed-requires : tie.Need-length-allowed-requires
 length-allowed-requires c κs = search needs
@@ -49,7 +50,12 @@ returns-2 c =
     let t = c .before .before .before .before .before in
     let e = t .before .before in
     let st = e .before .before .before .before .before in
-    rw (← e .before .served .ensures, not-false (e .before .served .result) (e .if1 .left), ← t .before .length-allowed .ensures, not-true (t .before .length-allowed .result) (t .if2 .taken))
+    rw (
+      ← e .before .served .ensures,
+      not-false (e .before .served .result) (e .if1 .left),
+      ← t .before .length-allowed .ensures,
+      not-true (t .before .length-allowed .result) (t .if2 .taken),
+    )
     (c .before .before .reply2 .ensures (st .args .flash .now))
 
 perform-requires : tie.Need-perform-requires
@@ -69,7 +75,12 @@ unfolding executed
 returns-3 c =
     let t = c .before .before .before .before .before .before .before in
     let e = t .before .before in
-    rw (← e .before .served .ensures, not-false (e .before .served .result) (e .if1 .left), ← t .before .length-allowed .ensures, not-false (t .before .length-allowed .result) (t .if2 .left))
+    rw (
+      ← e .before .served .ensures,
+      not-false (e .before .served .result) (e .if1 .left),
+      ← t .before .length-allowed .ensures,
+      not-false (t .before .length-allowed .result) (t .if2 .left),
+    )
     (c .before .before .before .before .perform .ensures)
 
 pub execute-spec : {M : Type 1} → statement M

@@ -17,19 +17,25 @@ version-requires c κs =
 
 set-address-requires : tie.Need-set-address-requires
 set-address-requires c κs =
-    let st = c .before .before .before .before .before in
-    (set-address-arguments (st .args .code) (length (st .args .args .now)) (c .before .match .keys2) (st .pre .1), omega (arith, few-fit (st .args .p) (st .args .s) _ _ (st .args .at) 0 (st .pre .0) (omega arith)))
+    let st = c .before .before .before .before .before in (
+      set-address-arguments (st .args .code) (length (st .args .args .now)) (c .before .match .keys2) (st .pre .1),
+      omega (arith, few-fit (st .args .p) (st .args .s) _ _ (st .args .at) 0 (st .pre .0) (omega arith)),
+    )
 
 hardware-info-requires : tie.Need-hardware-info-requires
 hardware-info-requires c κs =
-    let st = c .before .before .before .before .before in
-    (omega (arith, st .pre .0 .sound .profile .size-most), few-fit (st .args .p) (st .args .s) _ _ (st .args .at) 5 (st .pre .0) (omega arith))
+    let st = c .before .before .before .before .before in (
+      omega (arith, st .pre .0 .unrefused .profile .size-most),
+      few-fit (st .args .p) (st .args .s) _ _ (st .args .at) 5 (st .pre .0) (omega arith),
+    )
 
 serial-requires : tie.Need-serial-requires
 serial-requires c κs =
     let st = c .before .before .before .before .before in
-    let p = st .args .p in
-    (omega (arith, st .pre .0 .sound .profile .serial-most, length-used (p .seriallen) (p .serial)), few-fit (st .args .p) (st .args .s) _ _ (st .args .at) 16 (st .pre .0) (omega arith))
+    let p = st .args .p in (
+      omega (arith, st .pre .0 .unrefused .profile .serial-most, length-used (p .seriallen) (p .serial)),
+      few-fit (st .args .p) (st .args .s) _ _ (st .args .at) 16 (st .pre .0) (omega arith),
+    )
 
 start-requires : tie.Need-start-requires
 start-requires c κs = search needs
@@ -54,8 +60,10 @@ revision-requires c κs =
 
 reply-number-requires : tie.Need-reply-number-requires
 reply-number-requires c κs =
-    let st = c .before .before .before .before .before in
-    (omega (arith, st .pre .0 .sound .profile .longest-most), few-fit (st .args .p) (st .args .s) _ _ (st .args .at) 2 (st .pre .0) (omega arith))
+    let st = c .before .before .before .before .before in (
+      omega (arith, st .pre .0 .unrefused .profile .longest-most),
+      few-fit (st .args .p) (st .args .s) _ _ (st .args .at) 2 (st .pre .0) (omega arith),
+    )
 
 same-length : tie.Need-same-length
 same-length c = search needs
@@ -107,7 +115,8 @@ same-length-6 c = search needs
 
 returns-6 : tie.Need-returns-6
 unfolding performed
-returns-6 c = rw (c .before .before .before .before .before .before .before .match .keys6) (c .before .before .before .before .write .ensures)
+returns-6 c =
+    rw (c .before .before .before .before .before .before .before .match .keys6) (c .before .before .before .before .write .ensures)
 
 same-length-7 : tie.Need-same-length-7
 same-length-7 c = search needs
@@ -117,7 +126,8 @@ same-length-8 c = search needs
 
 returns-7 : tie.Need-returns-7
 unfolding performed
-returns-7 c = rw (c .before .before .before .before .before .before .before .match .keys7) (c .before .before .before .before .finalize .ensures)
+returns-7 c =
+    rw (c .before .before .before .before .before .before .before .match .keys7) (c .before .before .before .before .finalize .ensures)
 
 same-length-9 : tie.Need-same-length-9
 same-length-9 c = search needs

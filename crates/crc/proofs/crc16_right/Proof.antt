@@ -40,7 +40,11 @@ shared-slice-read-result c = search needs
 returns-2 : tie.Need-returns-2
 returns-2 c =
     let frame = c .before .before .before .before .before .before .before .args .frame .now in
-    rw (sumRight-Rs485 frame (length frame - 2) (omega arith), ← c .before .before .before .crc16 .ensures, eq-eqb _ _ (c .before .if2 .taken))
+    rw (
+      sumRight-Rs485 frame (length frame - 2) (omega arith),
+      ← c .before .before .before .crc16 .ensures,
+      eq-eqb _ _ (c .before .if2 .taken),
+    )
 
 returns-3 : tie.Need-returns-3
 returns-3 c =

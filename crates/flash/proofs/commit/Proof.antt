@@ -56,7 +56,9 @@ returns-2 : tie.Need-returns-2
 returns-2 c =
     let test = c .before .before .before .before in
     let start = test .before .before .before .before .before .before in
-    let differs = compared (start .args .flash .now) (start .args .at) (start .args .bytes .now) (sym (test .if1 .left) ∙ test .before .matches .ensures) in
+    let differs =
+    compared (start .args .flash .now) (start .args .at) (start .args .bytes .now)
+    (sym (test .if1 .left) ∙ test .before .matches .ensures) in
     record { changed = sym (ap not differs); laid = c .before .before .store .ensures }
 
 pub commit-spec : {M : Type 1} → statement M

@@ -1,4 +1,5 @@
--- `profile::in_range` meets its contract: each test of the code is one of the rule; the page is 64, and a hardware type of one byte is at most 255.
+-- `profile::in_range` meets its contract: each test of the code is one of the rule; the page is 64, and a hardware type of one byte is at
+-- most 255.
 use Prim.Native.Nat.{_≤_}
 use borrow.Author.Needs.{needs}
 use borrow.Author.Tests.{le-leb, lt-leb}
@@ -22,7 +23,10 @@ returns-2 : tie.Need-returns-2
 unfolding inRange
 returns-2 c =
     let framed = c .before .before in
-    rw (answered-true (framed .before .frame-in-range .ensures) (framed .if1 .left), answered-false (c .before .size-in-range .ensures) (c .if2 .taken))
+    rw (
+      answered-true (framed .before .frame-in-range .ensures) (framed .if1 .left),
+      answered-false (c .before .size-in-range .ensures) (c .if2 .taken),
+    )
 
 offset-in-range-requires : tie.Need-offset-in-range-requires
 offset-in-range-requires c κs = search needs

@@ -1,5 +1,5 @@
--- `profile::upload_formed` meets its contract: by `uploadFormed-held` the rule is a test on the numbers of the upload, and each test of the code is
--- one of those.
+-- `profile::upload_formed` meets its contract: by `uploadFormed-held` the rule is a test on the numbers of the upload, and each test of the
+-- code is one of those.
 use borrow.Author.Needs.{needs}
 use borrow.Author.Tests.{le-leb, lt-leb}
 use Rattle.state.specs.View.{page}

@@ -58,7 +58,8 @@ returns c =
     let w1 = w2 .before .before in
     let st = w1 .before .before .before .before .before in
     let args = st .args .args .now in
-    let over : st .args .p .size < getD args 0 0 * 256 + getD args 1 0 + getD args 2 0 = omega (arith, t .if1 .taken, w1 .wide .ensures .0, w2 .wide2 .ensures .0, w3 .wide3 .ensures .0) in
+    let over : st .args .p .size < getD args 0 0 * 256 + getD args 1 0 + getD args 2 0 =
+    omega (arith, t .if1 .taken, w1 .wide .ensures .0, w2 .wide2 .ensures .0, w3 .wide3 .ensures .0) in
     rw (lt-leb _ _ over) (c .before .before .reply .ensures (st .args .flash .now))
 
 longest-results-requires : tie.Need-longest-results-requires

@@ -20,7 +20,12 @@ returns-3 : tie.Need-returns-3
 returns-3 c =
     let e = c .before in
     let s = c .before .before .before .before .args .s in
-    rw (e .before .before .if1 .left, ← e .before .addressed .ensures, not-false (e .before .addressed .result) (e .if2 .left), length-used (s .last .len) (s .last .bytes))
+    rw (
+      e .before .before .if1 .left,
+      ← e .before .addressed .ensures,
+      not-false (e .before .addressed .result) (e .if2 .left),
+      length-used (s .last .len) (s .last .bytes),
+    )
 
 pub i2c-read-answered-spec : {M : Type 1} → statement M
 i2c-read-answered-spec = tie.close (tie.spec returns addressed-requires returns-2 returns-3)

@@ -36,7 +36,8 @@ returns c =
     let st = f .before .before .before in
     let p = profileOf (st .args .p) in
     let s = view (st .args .s) in
-    let r = check-refused p s (length (st .args .flash .now)) (length (st .args .out .now)) _ (sym (f .refuse .ensures) ∙ k .check .given .1) in
+    let r =
+    check-refused p s (length (st .args .flash .now)) (length (st .args .out .now)) _ (sym (f .refuse .ensures) ∙ k .check .given .1) in
     rw (r .not-zero) (record { called = rw (r .numbered, r .none-made); untouched = λ two. refl })
 
 enum-told : tie.Need-enum-told
@@ -64,31 +65,39 @@ returns-2 c =
 
 -- none of 2 to 5 applies where the last reply is handed out, and its buffer is whole
 none : (c : tie.After-store-arg)
-    → refusal (profileOf (c .before .before .before .before .before .before .before .before .before .args .p)) (view (c .before .before .before .before .before .before .before .before .before .args .s))
-    (length (c .before .before .before .before .before .before .before .before .before .args .flash .now)) (length (c .before .before .before .before .before .before .before .before .before .args .out .now))
+    → refusal (profileOf (c .before .before .before .before .before .before .before .before .before .args .p))
+    (view (c .before .before .before .before .before .before .before .before .before .args .s))
+    (length (c .before .before .before .before .before .before .before .before .before .args .flash .now))
+    (length (c .before .before .before .before .before .before .before .before .before .args .out .now))
     ≡ 0
 none c =
     let t = c .before .before .before .before in
     let f = t .before .before in
     let st = f .before .before .before in
-    check-passed (profileOf (st .args .p)) (view (st .args .s)) (length (st .args .flash .now)) (length (st .args .out .now)) (sym (f .refuse .ensures) ∙ t .enum-told .given .1)
+    check-passed (profileOf (st .args .p)) (view (st .args .s)) (length (st .args .flash .now)) (length (st .args .out .now))
+    (sym (f .refuse .ensures) ∙ t .enum-told .given .1)
 
-sound : (c : tie.After-store-arg)
-    → Unrefused (profileOf (c .before .before .before .before .before .before .before .before .before .args .p)) (view (c .before .before .before .before .before .before .before .before .before .args .s))
-    (length (c .before .before .before .before .before .before .before .before .before .args .flash .now)) (length (c .before .before .before .before .before .before .before .before .before .args .out .now))
-sound c = refusal-unrefused _ _ _ _ (none c)
+unrefused : (c : tie.After-store-arg)
+    → Unrefused (profileOf (c .before .before .before .before .before .before .before .before .before .args .p))
+    (view (c .before .before .before .before .before .before .before .before .before .args .s))
+    (length (c .before .before .before .before .before .before .before .before .before .args .flash .now))
+    (length (c .before .before .before .before .before .before .before .before .before .args .out .now))
+unrefused c = refusal-unrefused _ _ _ _ (none c)
 
 last-most : (c : tie.After-store-arg)
-    → c .before .before .before .before .before .before .before .before .before .args .s .last .len ≤ c .before .before .before .before .before .before .before .before .before .args .p .longest
+    → c .before .before .before .before .before .before .before .before .before .args .s .last .len ≤ c .before .before .before .before
+    .before .before .before .before .before .args .p .longest
 last-most c =
     let s = c .before .before .before .before .before .before .before .before .before .args .s in
-    omega (arith, sound c .state .reply .last-most, length-used (s .last .len) (s .last .bytes))
+    omega (arith, unrefused c .state .reply .last-most, length-used (s .last .len) (s .last .bytes))
 
 whole : (c : tie.Start) → length (c .args .s .last .bytes) ≡ 256
 whole c = search needs
 
-full : (c : tie.After-store-arg) → (length (c .before .before .before .before .before .before .before .before .before .args .s .last .bytes) ≡ 256) × (c .before .before .before .before .before .before .before .before .before .args .p .longest ≤ 256)
-full c = (whole (c .before .before .before .before .before .before .before .before .before), sound c .profile .longest-most)
+full : (c : tie.After-store-arg) → (length
+    (c .before .before .before .before .before .before .before .before .before .args .s .last .bytes) ≡ 256)
+    × (c .before .before .before .before .before .before .before .before .before .args .p .longest ≤ 256)
+full c = (whole (c .before .before .before .before .before .before .before .before .before), unrefused c .profile .longest-most)
 
 array-share-prefix-bytes : tie.Need-array-share-prefix-bytes
 array-share-prefix-bytes c =
@@ -103,7 +112,7 @@ slice-aggregate-store c =
 store-requires : tie.Need-store-requires
 store-requires c κs =
     let st = c .before .before .before .before .before .before .before .before .before .before in
-    simp length-take (omega (arith, last-most (c .before), sound (c .before) .buffer-holds))
+    simp length-take (omega (arith, last-most (c .before), unrefused (c .before) .buffer-holds))
 
 same-length : tie.Need-same-length
 same-length c = search needs
@@ -121,7 +130,8 @@ returns-3 c =
     let n = s .last .len in
     let bytes = s .last .bytes in
     let fits : n ≤ length bytes = omega (arith, full a, last-most a) in
-    let laid-is : c .before .before .store .last .0 ≡ laid (used n bytes) out = c .before .before .store .ensures ∙ rw (used-take n bytes fits, zero-add) in
+    let laid-is : c .before .before .store .last .0 ≡ laid (used n bytes) out =
+    c .before .before .store .ensures ∙ rw (used-take n bytes fits, zero-add) in
     rw (eq-eqb _ _ (none a), ← r .read-answered .ensures, not-false (r .read-answered .result) (e .if1 .left))
     (record { called = rw (laid-is, length-used n bytes); untouched = λ two. refl })
 

@@ -16,7 +16,8 @@ shared-slice-read-result : tie.Need-shared-slice-read-result
 shared-slice-read-result c = search needs
 
 cast-result : tie.Need-cast-result
-cast-result c = omega (arith, c .shared-slice-known .given (c .before .args .at + 2), c .shared-slice-known .given (c .before .args .at + 3))
+cast-result c =
+    omega (arith, c .shared-slice-known .given (c .before .args .at + 2), c .shared-slice-known .given (c .before .args .at + 3))
 
 mul-result : tie.Need-mul-result
 mul-result c = omega (arith, c .shared-slice-known .given (c .before .args .at + 2), c .shared-slice-known .given (c .before .args .at + 3))
@@ -26,11 +27,19 @@ shared-slice-read-result-2 c = search needs
 
 cast-result-2 : tie.Need-cast-result-2
 cast-result-2 c =
-    omega (arith, c .before .shared-slice-known .given (c .before .before .args .at + 2), c .shared-slice-known2 .given (c .before .before .args .at + 3))
+    omega (
+      arith,
+      c .before .shared-slice-known .given (c .before .before .args .at + 2),
+      c .shared-slice-known2 .given (c .before .before .args .at + 3),
+    )
 
 add-result : tie.Need-add-result
 add-result c =
-    omega (arith, c .before .shared-slice-known .given (c .before .before .args .at + 2), c .shared-slice-known2 .given (c .before .before .args .at + 3))
+    omega (
+      arith,
+      c .before .shared-slice-known .given (c .before .before .args .at + 2),
+      c .shared-slice-known2 .given (c .before .before .args .at + 3),
+    )
 
 returns : tie.Need-returns
 returns c = simp getD-drop

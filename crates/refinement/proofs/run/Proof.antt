@@ -1,5 +1,5 @@
--- `refinement::run` meets its contract. Invariant: `Reached`, the records before `at` were followed. A turn follows one more, by `reached-record`; where
--- no whole record stands at `at`, the script is at its end, by `reached-end`.
+-- `refinement::run` meets its contract. Invariant: `Reached`, the records before `at` were followed. A turn follows one more, by
+-- `reached-record`; where no whole record stands at `at`, the script is at its end, by `reached-end`.
 use mathlib.Core.Path.{_≡_, refl}
 use Prim.Native.Nat.{_+_, _-_}
 use native.Mathlib.Omega.{arith}
@@ -98,7 +98,8 @@ loop-again c =
       flash = made .call .last .1 .1 .1 .1 .1 .0;
     })
     (at + head + n)
-    (le-leb (head + frameLength (drop at script)) (length (drop at script)) (omega (arith, length-is, length-drop at script, test .if1 .left, test .before .before .loop-test .taken)))
+    (le-leb (head + frameLength (drop at script)) (length (drop at script))
+    (omega (arith, length-is, length-drop at script, test .if1 .left, test .before .before .loop-test .taken)))
     (omega (arith, length-is))
     refl
     (search needs)

@@ -21,7 +21,12 @@ returns-2 : tie.Need-returns-2
 unfolding commandWrong
 returns-2 c =
     let known = c .before .before in
-    rw (← known .before .served .ensures, not-false (known .before .served .result) (known .if1 .left), ← c .before .length-allowed .ensures, not-true (c .before .length-allowed .result) (c .if2 .taken))
+    rw (
+      ← known .before .served .ensures,
+      not-false (known .before .served .result) (known .if1 .left),
+      ← c .before .length-allowed .ensures,
+      not-true (c .before .length-allowed .result) (c .if2 .taken),
+    )
 
 shortest-request-requires : tie.Need-shortest-request-requires
 shortest-request-requires c κs = search needs

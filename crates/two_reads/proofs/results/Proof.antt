@@ -34,7 +34,10 @@ unfolding resultBytes
 returns c =
     let second = c .before .before in
     let first = second .before .before in
-    rw (decodes-refused (first .decode .ensures) (second .before .match .keys2), decodes-refused (second .decode2 .ensures) (c .before .match2 .keys2))
+    rw (
+      decodes-refused (first .decode .ensures) (second .before .match .keys2),
+      decodes-refused (second .decode2 .ensures) (c .before .match2 .keys2),
+    )
 
 add-result : tie.Need-add-result
 add-result c =
@@ -58,7 +61,10 @@ returns-2 c =
     let second = c .before .before .before .before in
     let first = second .before .before in
     let known = c .before .before .status2 .given .1 in
-    rw (decodes-refused (first .decode .ensures) (second .before .match .keys2), ap (λ (d : Decoding). d .number) (decodes-reply (second .decode2 .ensures) known))
+    rw (
+      decodes-refused (first .decode .ensures) (second .before .match .keys2),
+      ap (λ (d : Decoding). d .number) (decodes-reply (second .decode2 .ensures) known),
+    )
     (part-results (second .decode2 .ensures) known)
 
 add-result-2 : tie.Need-add-result-2

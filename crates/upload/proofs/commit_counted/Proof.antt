@@ -16,10 +16,15 @@ counted-by : (stands answered : Bool) (count : ℕ) → answered ≡ not stands 
 counted-by true answered count e = rw e
 counted-by false answered count e = rw e
 
-commit-by : {d : List ℕ} {at : ℕ} {bytes : List ℕ} {answered : Bool} {d′ : List ℕ} (b : Bool) (count : ℕ) → answered ≡ b → Committed d at bytes answered d′
+commit-by : {d : List ℕ} {at : ℕ} {bytes : List ℕ} {answered : Bool} {d′ : List ℕ} (b : Bool) (count : ℕ) → answered ≡ b
+    → Committed d at bytes answered d′
     → CommitCounted d at bytes count (cond b (count + 1) count) d′
 commit-by {d} {at} {bytes} b count e answered =
-    record { counted = sym (counted-by (same (take (length bytes) (drop at d)) bytes) b count (sym e ∙ answered .changed)); laid = answered .laid }
+    record {
+      counted = sym (counted-by (same (take (length bytes) (drop at d)) bytes) b count (sym e ∙ answered .changed));
+      laid =
+          answered .laid;
+    }
 
 commit-requires : tie.Need-commit-requires
 commit-requires c κs = search needs

@@ -1,5 +1,5 @@
--- `upload::finalize` meets its contract: nothing waiting leaves all as it is, else the waiting bytes lie in one page and are committed there.
--- By `finalized-none`, `finalized-some` and `committed-counted`.
+-- `upload::finalize` meets its contract: nothing waiting leaves all as it is, else the waiting bytes lie in one page and are committed
+-- there. By `finalized-none`, `finalized-some` and `committed-counted`.
 use mathlib.Core.Path.{_≡_, refl, sym, _∙_}
 use native.Mathlib.Omega.{arith}
 use lib.ListN.{length, length-take}
@@ -64,7 +64,8 @@ returns-2 c =
     let place = sub-mod page (u .next) (u .held) (omega arith) (b .held .held-most) in
     let lies = fitting p u d (b .profile) (start .pre .flash-holds) (b .held .next-most) (omega arith) (omega arith) in
     let h : length (u .waiting) ≡ page = search needs in
-    let done = sym (finalized-some (profileOf p) u d some ∙ committed-counted p u lies (omega arith) (c .before .before .commit-counted .ensures)) in
+    let done =
+    sym (finalized-some (profileOf p) u d some ∙ committed-counted p u lies (omega arith) (c .before .before .commit-counted .ensures)) in
     (done, finalized-formed d (start .pre) _ done)
 
 pub finalize-spec : {M : Type 1} → statement M

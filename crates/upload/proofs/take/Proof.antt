@@ -1,5 +1,5 @@
--- `upload::take` meets its contract. Invariant: `Reached`, where the first i bytes lead. A turn takes a part that lies in one page, by `turn-appended`
--- or `turn-committed`.
+-- `upload::take` meets its contract. Invariant: `Reached`, where the first i bytes lead. A turn takes a part that lies in one page, by
+-- `turn-appended` or `turn-committed`.
 use Prim.Native.Nat.{_-_}
 use native.Mathlib.Omega.{arith}
 use lib.ListN.{length, length-take, length-drop}
@@ -78,7 +78,8 @@ loop-again c =
     let at-loop = stored .before .before .before .before .before in
     let pre = at-loop .before .before .before .before .pre in
     let part = stored .before .before .before .part .ensures in
-    turn-committed (pre .0) (pre .1) (at-loop .loop .inv) part (stored .store .ensures) (test .if1 .taken) (c .before .before .commit-counted .ensures)
+    turn-committed (pre .0) (pre .1) (at-loop .loop .inv) part (stored .store .ensures) (test .if1 .taken)
+    (c .before .before .commit-counted .ensures)
 
 loop-less-2 : tie.Need-loop-less-2 Inv-loop μ-loop
 loop-less-2 c = omega arith

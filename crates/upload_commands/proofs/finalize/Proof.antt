@@ -10,7 +10,8 @@ use Rattle.upload_commands.proofs.finalize.Tie as tie
 finalize-requires : tie.Need-finalize-requires
 finalize-requires c κs =
     let st = c .before .before .before .before in
-    ready (st .args .p) (st .args .s) _ _ (st .args .at) (st .pre) (st .args .s .upload) (upload-formed (st .args .p) (st .args .s) _ _ (st .args .at) (st .pre))
+    ready (st .args .p) (st .args .s) _ _ (st .args .at) (st .pre) (st .args .s .upload)
+    (upload-formed (st .args .p) (st .args .s) _ _ (st .args .at) (st .pre))
 
 with-upload-requires : tie.Need-with-upload-requires
 with-upload-requires c κs = search needs

@@ -73,7 +73,8 @@ returns c =
     let args = st .args .args .now in
     let s = st .args .s in
     let no : accepted (st .args .p .size) (s .upload .next) (numberAt args 0) (length (drop 2 args)) ≡ false =
-    rw (take-rest args 2, w1 .wide .ensures .0, w2 .wide2 .ensures .0) at (sym (a .accepts .ensures) ∙ not-true (a .accepts .result) (t .if1 .taken)) in
+    rw (take-rest args 2, w1 .wide .ensures .0, w2 .wide2 .ensures .0) at (sym (a .accepts .ensures)
+    ∙ not-true (a .accepts .result) (t .if1 .taken)) in
     rw no (c .before .before .reply .ensures (st .args .flash .now))
 
 restart-requires : tie.Need-restart-requires
@@ -91,9 +92,11 @@ take-requires c κs =
     let s = st .args .s in
     let address = w1 .wide .result * 256 + w2 .wide2 .result in
     let many = length (take (length args - 2) (drop 2 args)) in
-    let yes : accepted (p .size) (s .upload .next) address many ≡ true = sym (a .accepts .ensures) ∙ not-false (a .accepts .result) (b .before .if1 .left) in
+    let yes : accepted (p .size) (s .upload .next) address many ≡ true =
+    sym (a .accepts .ensures) ∙ not-false (a .accepts .result) (b .before .if1 .left) in
     let formed = upload-formed p s _ _ (st .args .at) (st .pre .0) in (
-      ready p s _ _ (st .args .at) (st .pre .0) (b .restart .result) (rw (b .restart .ensures) (restarted-formed page (p .size) address (uploadOf (s .upload)) formed)),
+      ready p s _ _ (st .args .at) (st .pre .0) (b .restart .result)
+          (rw (b .restart .ensures) (restarted-formed page (p .size) address (uploadOf (s .upload)) formed)),
       rw (ap (λ u. u .next) (b .restart .ensures)) (accepted-fits (p .size) address many (uploadOf (s .upload)) yes),
     )
 
@@ -105,7 +108,9 @@ slice-aggregate-reply-2 c = search needs
 
 reply-requires-2 : tie.Need-reply-requires-2
 reply-requires-2 c κs =
-    let st = c .before .before .before .before .before .before .before .before .before .before .before .before .before .before .before .before .before .before .before in
+    let st =
+    c .before .before .before .before .before .before .before .before .before .before .before .before .before .before .before .before
+    .before .before .before in
     few-fit (st .args .p) (st .args .s) _ _ (st .args .at) 0 (st .pre .0) (omega arith)
 
 same-length-2 : tie.Need-same-length-2
@@ -127,9 +132,11 @@ returns-2 c =
     let args = st .args .args .now in
     let s = st .args .s in
     let yes : accepted (st .args .p .size) (s .upload .next) (numberAt args 0) (length (drop 2 args)) ≡ true =
-    rw (take-rest args 2, w1 .wide .ensures .0, w2 .wide2 .ensures .0) at (sym (a .accepts .ensures) ∙ not-false (a .accepts .result) (b .before .if1 .left)) in
+    rw (take-rest args 2, w1 .wide .ensures .0, w2 .wide2 .ensures .0) at (sym (a .accepts .ensures)
+    ∙ not-false (a .accepts .result) (b .before .if1 .left)) in
     let g : progressOf (t .take .result) (t .take .last .1 .1 .1 .0)
-    ≡ takenAll (profileOf (st .args .p)) (record { upload = restarted (numberAt args 0) (uploadOf (s .upload)); flash = st .args .flash .now }) (drop 2 args) =
+    ≡ takenAll (profileOf (st .args .p)) (record
+    { upload = restarted (numberAt args 0) (uploadOf (s .upload)); flash = st .args .flash .now }) (drop 2 args) =
     rw (take-rest args 2, b .restart .ensures, w1 .wide .ensures .0, w2 .wide2 .ensures .0) at (t .take .ensures .0) in
     rw (yes, ← g) (rw (w .with-upload .ensures) at (c .before .before .reply2 .ensures (t .take .last .1 .1 .1 .0)))
 

@@ -41,7 +41,14 @@ unfolding verdict
 returns-4 c =
     let r = c .before .before .before .before in
     let e = r .before in
-    rw (← e .before .before .is-reset .ensures, e .before .if1 .left, e .if2 .left, ← r .is-reset-address .ensures, c .before .before .before .if3 .left, c .before .enum-told .given .1)
+    rw (
+      ← e .before .before .is-reset .ensures,
+      e .before .if1 .left,
+      e .if2 .left,
+      ← r .is-reset-address .ensures,
+      c .before .before .before .if3 .left,
+      c .before .enum-told .given .1,
+    )
     (c .i2c-framing .ensures)
 
 returns-5 : tie.Need-returns-5
@@ -49,7 +56,14 @@ unfolding verdict framing
 returns-5 c =
     let r = c .before .before .before .before in
     let e = r .before in
-    rw (← e .before .before .is-reset .ensures, e .before .if1 .left, e .if2 .left, ← r .is-reset-address .ensures, c .before .before .before .if3 .left, c .before .enum-told2 .given .1)
+    rw (
+      ← e .before .before .is-reset .ensures,
+      e .before .if1 .left,
+      e .if2 .left,
+      ← r .is-reset-address .ensures,
+      c .before .before .before .if3 .left,
+      c .before .enum-told2 .given .1,
+    )
     (c .rs485-framing .ensures)
 
 pub classify-spec : {M : Type 1} → statement M

@@ -20,7 +20,12 @@ returns-3 : tie.Need-returns-3
 unfolding framing
 returns-3 c =
     let e = c .before .before in
-    rw (le-ltb _ _ (e .before .if1 .left), le-ltb _ _ (e .if2 .left), ← c .before .sum-right .ensures, not-true (c .before .sum-right .result) (c .if3 .taken))
+    rw (
+      le-ltb _ _ (e .before .if1 .left),
+      le-ltb _ _ (e .if2 .left),
+      ← c .before .sum-right .ensures,
+      not-true (c .before .sum-right .result) (c .if3 .taken),
+    )
 
 shared-slice-read-to : tie.Need-shared-slice-read-to
 shared-slice-read-to c = search needs
@@ -30,7 +35,13 @@ unfolding framing
 returns-4 c =
     let s = c .before .before .before in
     let e = s .before in
-    rw (le-ltb _ _ (e .before .if1 .left), le-ltb _ _ (e .if2 .left), ← s .sum-right .ensures, not-false (s .sum-right .result) (c .before .before .if3 .left), eq-eqb _ _ (c .if4 .taken))
+    rw (
+      le-ltb _ _ (e .before .if1 .left),
+      le-ltb _ _ (e .if2 .left),
+      ← s .sum-right .ensures,
+      not-false (s .sum-right .result) (c .before .before .if3 .left),
+      eq-eqb _ _ (c .if4 .taken),
+    )
 
 addressed-requires : tie.Need-addressed-requires
 addressed-requires c κs = search needs

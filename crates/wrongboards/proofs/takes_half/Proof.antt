@@ -1,4 +1,5 @@
--- `wrongboards::takes_half` meets its contract: of 65 bytes 7 written at 0, where S is 64, the first 64 are in flash though the write is refused.
+-- `wrongboards::takes_half` meets its contract: of 65 bytes 7 written at 0, where S is 64, the first 64 are in flash though the write is
+-- refused.
 use mathlib.Core.Path.{_≡_, refl, ap}
 use mathlib.Core.List.{List, [], _∷_}
 use Prim.Native.Nat.{ℕ}

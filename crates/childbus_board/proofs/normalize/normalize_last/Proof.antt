@@ -37,7 +37,8 @@ loop-again c =
     let turn = c .before .loop in
     let start = c .before .before in
     let long : length (start .args .t1 .bytes) ≡ largestFrame = search needs in
-    let another = used-turn largestFrame _ _ long (turn .k) (turn .l .bytes) (turn .inv .1) (turn .inv .2) (c .loop-test .taken) (turn .inv .3) in
+    let another =
+    used-turn largestFrame _ _ long (turn .k) (turn .l .bytes) (turn .inv .1) (turn .inv .2) (c .loop-test .taken) (turn .inv .3) in
     (turn .inv .0, simp length-set (turn .inv .1), omega arith, another)
 
 returns : tie.Need-returns Inv-loop μ-loop

@@ -23,7 +23,10 @@ unfolding whichRead chosenRead
 returns c =
     let second = c .before in
     let first = second .before .before in
-    rw (decodes-refused (first .decode .ensures) (second .before .match .keys2), decodes-refused (second .decode2 .ensures) (c .match2 .keys2))
+    rw (
+      decodes-refused (first .decode .ensures) (second .before .match .keys2),
+      decodes-refused (second .decode2 .ensures) (c .match2 .keys2),
+    )
 
 returns-2 : tie.Need-returns-2
 unfolding whichRead chosenRead

@@ -27,7 +27,8 @@ returns c =
     let minor = ruled .before in
     let major = minor .before in
     let args = major .before .args in
-    sym (ap ruledAs (c .enum-told .given .1)) ∙ version-left (args .major) (args .minor) (major .clip .ensures) (minor .clip2 .ensures) (ruled .version .ensures)
+    sym (ap ruledAs (c .enum-told .given .1))
+    ∙ version-left (args .major) (args .minor) (major .clip .ensures) (minor .clip2 .ensures) (ruled .version .ensures)
 
 cast-known-major : tie.Need-cast-known-major
 cast-known-major c = search needs
@@ -41,7 +42,8 @@ returns-2 c =
     let minor = ruled .before in
     let major = minor .before in
     let args = major .before .args in
-    sym (ap ruledAs (c .before .answer .given .1)) ∙ version-left (args .major) (args .minor) (major .clip .ensures) (minor .clip2 .ensures) (ruled .version .ensures)
+    sym (ap ruledAs (c .before .answer .given .1))
+    ∙ version-left (args .major) (args .minor) (major .clip .ensures) (minor .clip2 .ensures) (ruled .version .ensures)
 
 pub childbus-version-spec : {M : Type 1} → statement M
 childbus-version-spec =

@@ -72,7 +72,8 @@ open-reply-requires c κs =
     let count = c .before .before in
     let header = count .before .before in
     let start = header .before .before .before .before .before .before in
-    let is-count : count .wide .result ≡ countOf (start .args .bus) (start .args .reply .now) = rw (← header .header-length .ensures) (count .wide .ensures .0) in
+    let is-count : count .wide .result ≡ countOf (start .args .bus) (start .args .reply .now) =
+    rw (← header .header-length .ensures) (count .wide .ensures .0) in
     (is-count, lengthRight-le (start .args .bus) _ _ (sym (c .before .length-right .ensures) ∙ not-false _ (c .if3 .left)))
 
 returns-4 : tie.Need-returns-4

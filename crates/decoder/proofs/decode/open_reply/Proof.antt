@@ -19,7 +19,8 @@ add-end c = search needs
 slice-aggregate-sum-right : tie.Need-slice-aggregate-sum-right
 slice-aggregate-sum-right c =
     let start = c .before .before .before in
-    sym (length-take-le (start .args .n + c .before .shortest-reply .result) (start .args .reply .now) (omega (arith, c .before .shortest-reply .ensures)))
+    sym (length-take-le (start .args .n + c .before .shortest-reply .result) (start .args .reply .now)
+    (omega (arith, c .before .shortest-reply .ensures)))
 
 sum-right-requires : tie.Need-sum-right-requires
 sum-right-requires c κs = search needs

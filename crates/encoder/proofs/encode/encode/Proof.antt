@@ -58,7 +58,8 @@ write-request-requires c κs =
     let ranged = right .before .before in
     let start = ranged .before .before .before .before in
     let in-range = sym (ranged .before .frame-in-range .ensures) ∙ not-false _ (ranged .if1 .left) in
-    let fits = fitting (start .args .bus) (start .args .longest) (start .args .request) (start .args .destination) (length (start .args .bytes .now))
+    let fits =
+    fitting (start .args .bus) (start .args .longest) (start .args .request) (start .args .destination) (length (start .args .bytes .now))
     (longest-most _ in-range) (sym (right .before .argument-wrong .ensures) ∙ right .if2 .left) in
     (fits, rw (← long .before .request-length .ensures) (long .if3 .left))
 

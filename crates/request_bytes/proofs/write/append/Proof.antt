@@ -26,7 +26,8 @@ returns : tie.Need-returns
 returns c =
     let copied = c .before .before in
     let start = copied .before .before .before .before in
-    makes-part (start .args .n) (start .args .out .now) (start .args .more .now) _ _ (start .pre) (copied .copy .ensures .0) (copied .copy .ensures .1)
+    makes-part (start .args .n) (start .args .out .now) (start .args .more .now) _ _ (start .pre) (copied .copy .ensures .0)
+    (copied .copy .ensures .1)
 
 pub append-spec : {M : Type 1} → statement M
 append-spec =

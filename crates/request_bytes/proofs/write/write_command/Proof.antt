@@ -1,4 +1,5 @@
--- `request_bytes::write::write_command` meets its contract: front, arguments and check sum follow each other, by `makes-more` and `makes-sealed`.
+-- `request_bytes::write::write_command` meets its contract: front, arguments and check sum follow each other, by `makes-more` and
+-- `makes-sealed`.
 use mathlib.Core.List.{append-assoc}
 use native.Mathlib.Omega.{arith}
 use lib.ListN.{length-append}

@@ -57,7 +57,9 @@ returns-2 c =
     rw (c .enum-told2 .given .1)
     (record {
       length-is = refl;
-      output-is = rw (laid-snoc [] out 0 (start .args .destination) refl (omega arith)) (laid-snoc (start .args .destination ∷ []) out 1 _ refl room);
+      output-is =
+          rw (laid-snoc [] out 0 (start .args .destination) refl (omega arith))
+          (laid-snoc (start .args .destination ∷ []) out 1 _ refl room);
     })
 
 pub write-front-spec : {M : Type 1} → statement M

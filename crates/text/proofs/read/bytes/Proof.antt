@@ -36,7 +36,8 @@ returns-3 : tie.Need-returns-3
 unfolding bytesOf bytesLaid
 returns-3 c =
     let args = c .before .before .before .before .before .before .before .args in
-    let dash : isDash (args .s .now) ≡ false = sym (c .before .before .before .before .is-dash .ensures) ∙ c .before .before .before .if1 .left in
+    let dash : isDash (args .s .now) ≡ false =
+    sym (c .before .before .before .before .is-dash .ensures) ∙ c .before .before .before .if1 .left in
     let right : hexRight (args .s .now) ≡ false = sym (c .before .hex-right .ensures) ∙ not-true _ (c .if3 .taken) in
     bytes-read (args .s .now) (args .out .now) _ Wrong (rw (dash, le-leb 1 _ (c .before .before .if2 .left), right)) refl
 
@@ -44,7 +45,8 @@ returns-4 : tie.Need-returns-4
 unfolding bytesOf bytesLaid
 returns-4 c =
     let args = c .before .before .before .before .before .before .before .before .args in
-    let dash : isDash (args .s .now) ≡ false = sym (c .before .before .before .before .before .is-dash .ensures) ∙ c .before .before .before .before .if1 .left in
+    let dash : isDash (args .s .now) ≡ false =
+    sym (c .before .before .before .before .before .is-dash .ensures) ∙ c .before .before .before .before .if1 .left in
     let right : hexRight (args .s .now) ≡ true = sym (c .before .before .hex-right .ensures) ∙ not-false _ (c .before .if3 .left) in
     bytes-read (args .s .now) (args .out .now) _ Wrong
     (rw (dash, le-leb 1 _ (c .before .before .before .if2 .left), right, lt-leb _ _ (c .if4 .taken))) refl
@@ -60,8 +62,10 @@ unfolding bytesOf bytesLaid
 returns-5 c =
     let tested = c .before .before .before .before in
     let args = tested .before .before .before .before .before .before .before .before .args in
-    let dash : isDash (args .s .now) ≡ false = sym (tested .before .before .before .before .before .is-dash .ensures) ∙ tested .before .before .before .before .if1 .left in
-    let right : hexRight (args .s .now) ≡ true = sym (tested .before .before .hex-right .ensures) ∙ not-false _ (tested .before .if3 .left) in
+    let dash : isDash (args .s .now) ≡ false =
+    sym (tested .before .before .before .before .before .is-dash .ensures) ∙ tested .before .before .before .before .if1 .left in
+    let right : hexRight (args .s .now) ≡ true =
+    sym (tested .before .before .hex-right .ensures) ∙ not-false _ (tested .before .if3 .left) in
     bytes-read (args .s .now) (args .out .now) _ (Value (length (args .s .now) / 2))
     (rw (dash, le-leb 1 _ (tested .before .before .before .if2 .left), right, le-leb _ _ (tested .if4 .left)))
     (c .before .before .lay-pairs .ensures)

@@ -49,7 +49,8 @@ returns-2 c =
     let s = c .before .before .before .before .before .before .before .before .before .args .s .now in
     let first = c .before .before .before .before .digit in
     let second = c .before .digit2 in
-    let values = hexRight-second s (turn .i) (first .result) (second .result) (omega arith) (first .ensures .value) (second .ensures .value) in
+    let values =
+    hexRight-second s (turn .i) (first .result) (second .result) (omega arith) (first .ensures .value) (second .ensures .value) in
     sym (values (omega arith) (c .if2 .taken)) ∙ turn .inv .1
 
 add-i : tie.Need-add-i Inv-loop μ-loop
@@ -64,7 +65,8 @@ loop-again c =
     let s = c .before .before .before .before .before .before .before .before .before .args .s .now in
     let first = c .before .before .before .before .digit in
     let second = c .before .digit2 in
-    let values = hexRight-next s (turn .i) (first .result) (second .result) (omega arith) (first .ensures .value) (second .ensures .value) in
+    let values =
+    hexRight-next s (turn .i) (first .result) (second .result) (omega arith) (first .ensures .value) (second .ensures .value) in
     (omega arith, sym (values (omega arith) (omega arith)) ∙ turn .inv .1)
 
 returns-3 : tie.Need-returns-3 Inv-loop μ-loop

@@ -33,7 +33,8 @@ returns-2 c =
     let turn = c .before .before .before .before .loop in
     let args = c .before .before .before .before .before .before .before .args in
     let digit = c .before .digit in
-    sym (spelled-other (args .most) (turn .v) (args .s .now) (turn .i) (digit .result) (omega arith) (digit .ensures .value) (c .if2 .taken))
+    sym (spelled-other (args .most) (turn .v) (args .s .now) (turn .i) (digit .result) (omega arith) (digit .ensures .value)
+    (c .if2 .taken))
     ∙ turn .inv .2
 
 mul-if3 : tie.Need-mul-if3 Inv-loop μ-loop
@@ -47,7 +48,8 @@ returns-3 c =
     let turn = c .before .before .before .before .before .loop in
     let args = c .before .before .before .before .before .before .before .before .args in
     let digit = c .before .before .digit in
-    sym (spelled-over (args .most) (turn .v) (args .s .now) (turn .i) (digit .result) (omega arith) (digit .ensures .value) (omega arith) (c .if3 .taken))
+    sym (spelled-over (args .most) (turn .v) (args .s .now) (turn .i) (digit .result) (omega arith) (digit .ensures .value) (omega arith)
+    (c .if3 .taken))
     ∙ turn .inv .2
 
 mul-v : tie.Need-mul-v Inv-loop μ-loop
@@ -67,7 +69,9 @@ loop-again c =
     let turn = c .before .before .before .before .before .loop in
     let args = c .before .before .before .before .before .before .before .before .args in
     let digit = c .before .before .digit in
-    let further = spelled-next (args .most) (turn .v) (args .s .now) (turn .i) (digit .result) (omega arith) (digit .ensures .value) (omega arith) (omega arith) in
+    let further =
+    spelled-next (args .most) (turn .v) (args .s .now) (turn .i) (digit .result) (omega arith) (digit .ensures .value) (omega arith)
+    (omega arith) in
     (omega arith, omega arith, sym further ∙ turn .inv .2)
 
 returns-4 : tie.Need-returns-4 Inv-loop μ-loop

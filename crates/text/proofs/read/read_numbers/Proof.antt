@@ -26,8 +26,12 @@ abbrev μ-loop : tie.MeasureT-loop
 loop-holds : tie.Need-loop-holds Inv-loop μ-loop
 loop-holds c =
     let args = c .before .before .args in
-    let all = sub-zero (length (args .values .now)) in
-    (search needs, refl, ap (numbersAt (args .most) (args .s .now) (args .at)) all, ap (placeAfter (args .most) (args .s .now) (args .at)) all)
+    let all = sub-zero (length (args .values .now)) in (
+      search needs,
+      refl,
+      ap (numbersAt (args .most) (args .s .now) (args .at)) all,
+      ap (placeAfter (args .most) (args .s .now) (args .at)) all,
+    )
 
 read-number-requires : tie.Need-read-number-requires Inv-loop μ-loop
 read-number-requires c κs = search needs

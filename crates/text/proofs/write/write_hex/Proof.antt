@@ -48,8 +48,15 @@ loop-again : tie.Need-loop-again Inv-loop μ-loop
 loop-again c =
     let turn = c .before .before .before .before .before .before .loop in
     let bytes = c .before .before .before .before .before .before .before .before .before .before .args .s .now in
-    let more = writes-append (turn .inv .2) (c .before .before .write-pair .ensures) in
-    (omega arith, search needs, rw (add-one, take-suc bytes (turn .i) 0 (omega arith), hexPairs-append (take (turn .i) bytes) (getD bytes (turn .i) 0 ∷ [])) more)
+    let more = writes-append (turn .inv .2) (c .before .before .write-pair .ensures) in (
+      omega arith,
+      search needs,
+      rw (
+        add-one,
+        take-suc bytes (turn .i) 0 (omega arith),
+        hexPairs-append (take (turn .i) bytes) (getD bytes (turn .i) 0 ∷ []),
+      ) more,
+    )
 
 same-length-2 : tie.Need-same-length-2 Inv-loop μ-loop
 same-length-2 c = search needs

@@ -26,7 +26,10 @@ unfolding hexPairs
 returns c =
     let high = c .before .before .before .before .before .before .before .write-byte .ensures in
     let low = c .before .before .write-byte2 .ensures in
-    rw (c .before .before .before .before .before .before .before .before .glyph .ensures, c .before .before .before .glyph2 .ensures) at (writes-append high low)
+    rw (
+      c .before .before .before .before .before .before .before .before .glyph .ensures,
+      c .before .before .before .glyph2 .ensures,
+    ) at (writes-append high low)
 
 pub write-pair-spec : {M : Type 1} → statement M
 write-pair-spec =

@@ -24,7 +24,9 @@ same-length c = search needs
 returns : tie.Need-returns
 returns c =
     let made = c .before .before .before .before .before .hex in
-    let sixteen = fewest-sixteen (c .before .before .before .before .before .before .before .before .args .n) (made .result) (omega arith) (made .ensures .1 .0) in
+    let sixteen =
+    fewest-sixteen (c .before .before .before .before .before .before .before .before .args .n) (made .result) (omega arith)
+    (made .ensures .1 .0) in
     rw (made .ensures .1 .1, sixteen) at (c .before .before .write-bytes .ensures)
 
 pub write-word-spec : {M : Type 1} → statement M
