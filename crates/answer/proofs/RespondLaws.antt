@@ -86,7 +86,7 @@ with-reply-ruled bus to status count n done s d o out1 out2 a said long acted ro
         kept ∙ rw (out2-is, take-laid whole o n (sym n-is), ap (λ (x : buffered.CommandEffect). x .state) acted) in
         rw (e, n-is, kept-is, out2-is, ap (λ (x : buffered.CommandEffect). x .flash) acted)
 
--- and by silence
+-- and without a reply
 pub no-reply-ruled : (bus : Bus) (to : ℕ) (done : Done) (s : rules.State) (d o out1 : List ℕ) (a : Acted)
     → done .response ≡ response.NoReply → buffered.commandEffect done d out1 ≡ buffered.ruledCommand a o (headerLength bus + 2)
     → s ≡ withLast bus (view (done .state)) []

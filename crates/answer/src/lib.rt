@@ -1,4 +1,4 @@
-// What a board call answers: nothing, or what a command said, as a reply in the lent buffer and on I²C in the state as well.
+// What a board call answers: nothing, or the response of a command as a reply in the lent buffer and on I²C in the state as well.
 use frame::reply::close;
 use response::Done;
 use response::Response;
@@ -43,7 +43,7 @@ pub fn no_reply(s: State) -> Answer
     }
 }
 
-// What a command said, told to its sender: the reply in the lent buffer, and on I²C in the state as well.
+// The response of a command as an answer: the reply in the lent buffer, and on I²C in the state as well.
 pub fn respond(bus: Bus, to: u8, done: Done, out: &mut [u8]) -> Answer
     requires { ⌜ Fits bus (length (now out)) (done .response) ⌝ }
     ensures { λ r.

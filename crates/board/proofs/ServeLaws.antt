@@ -1,4 +1,4 @@
--- A frame taken apart, results that fit, and the numbers that a judged frame gets.
+-- A frame taken apart, results that fit, and the numbers that a frame gets.
 use mathlib.Core.Path.{_≡_, refl, sym, ap, _∙_}
 use mathlib.Core.Bool.{Bool, true, false}
 use mathlib.Core.List.{List, [], _++_}
@@ -75,7 +75,7 @@ command-long bus M running own a f =
     never : (v : Verdict) → isCommand v ≡ 0 → v ≡ Command → ⊥
     never v none e = let z : _≡_ {A = ℕ} 0 1 = sym none ∙ ap isCommand e in omega arith
 
--- a judged frame gets 0 or 1
+-- a frame that is not refused gets 0 or 1
 replied-number : (bus : Bus) (a : ℕ) (r : Response) (s : rules.State) (d : List ℕ) → replied bus a r s d .number ≤ 1
 replied-number bus a (Reply status results) s d = omega arith
 replied-number bus a NoReply s d = omega arith
@@ -96,7 +96,7 @@ handled-number p s a f d Command =
     let acted : Acted = executed p s (commandOf (p .bus) f) (argumentsOf (p .bus) f) d in
     replied-number (p .bus) (destination (p .bus) a f) (acted .response) (acted .state) (acted .flash)
 
--- what an obeyed command says fits the buffer that it was served with
+-- the response of a command fits the buffer that it was served with
 pub fits-served : (p : Profile) (s : rules.State) (code : ℕ) (args d : List ℕ) (n m k : ℕ) → Unrefused p s n m → length d ≡ n → k ≡ m
     → (r : response.Response)
     → r ≡ counted (executed p s code args d .response) → Fits (p .bus) k r

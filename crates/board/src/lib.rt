@@ -26,7 +26,7 @@ ghost use Rattle.state.specs.View.{view};
 ghost use Rattle.profile.specs.View.{profileOf};
 ghost use Rattle.answer.specs.Answered.{callEffect, expectedEffect, Answered};
 
-// A well-framed command to this board: taken apart, obeyed, answered.
+// A well-framed command to this board: taken apart, executed, answered.
 fn serve(
     p: Profile,
     s: State,

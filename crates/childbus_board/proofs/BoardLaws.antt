@@ -51,7 +51,7 @@ module _ (profile state : List ℕ) (address : ℕ) (flash out : List ℕ)
           ap (λ (x : CallEffect). x .out) seen-is,
         )
 
-    -- not refused: the new state is written, settled
+    -- not refused: the new state is written, normalized
     pub received-kept-left : {s′ : State} {b : List ℕ} → n < 2 → s′ ≡ normalized (view (r .state)) → b ≡ stateWritten s′ state
         → _≡_ {A = ReceivedLeft} (record { number = n; made = m; state = b; flash = d; out = o })
         (receivedLeft profile state address frame flash out)

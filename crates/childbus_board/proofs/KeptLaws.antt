@@ -27,7 +27,7 @@ use Rattle.state_bytes.proofs.Laws.{state-fits, state-read, state-malformed}
 use Rattle.childbus_board.specs.BoardBytes.{normalized, freshLeft, callOf, receivedLeft}
 use Rattle.childbus_board.proofs.NormalizeLaws.{view-normalized}
 
--- a well-formed state, settled, written and read again
+-- a well-formed state, normalized, written and read again
 module _ (p : paper.Profile) (s : rules.State) (range : inRange p ≡ true) (formed : wellFormed p s ≡ true) where
   normalized-says : view (normalized s) ≡ s
   normalized-says =

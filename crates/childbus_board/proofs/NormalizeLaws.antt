@@ -1,4 +1,4 @@
--- Laws of `normalized`: the loops that write zeros beyond the bytes in use, and that a settled state says the same.
+-- Laws of `normalized`: the loops that write zeros beyond the bytes in use, and that a normalized state says the same.
 use mathlib.Core.Path.{_≡_, refl, sym, ap, _∙_}
 use mathlib.Core.List.{List, _++_}
 use Prim.Native.Nat.{ℕ, _+_, _-_, _≤_, _<_}
@@ -87,6 +87,6 @@ used-used n l h =
     used-take (length l) (used n l) (rw (length-used n l) h) ∙ take-take (length l) n (l ++ replicate n 0) h
     ∙ take-at l (replicate n 0) (length l) refl
 
--- a settled state says what it was made of, where that fits its buffers
+-- a normalized state says what it was made of, where that fits its buffers
 pub view-normalized : (s : rules.State) → length (s .upload .waiting) ≤ page → length (s .last) ≤ largestFrame → view (normalized s) ≡ s
 view-normalized s waiting last = rw (used-used page (s .upload .waiting) waiting, used-used largestFrame (s .last) last)

@@ -1,5 +1,5 @@
 -- Demand 2 of the board of the rules. Along a list the state stays well formed, flash keeps its length (`BoardLaws`), and the past tells
--- what the state keeps (`Received`); so each well-framed frame gets what its command says (`Answered`).
+-- what the state keeps (`Received`); so each well-framed frame gets its command's response (`Answered`).
 use mathlib.Core.Path.{_≡_, sym, ap, subst, _∙_}
 use mathlib.Core.Bool.{true}
 use mathlib.Core.List.{List, [], _∷_}

@@ -1,4 +1,4 @@
--- What a well-framed request gets from the board of the rules: it is judged a command, so its answer is the command's own.
+-- What a well-framed request gets from the board of the rules: its verdict is a command, so its answer is the command's own.
 use mathlib.Core.Path.{_≡_, refl, sym, _∙_}
 use mathlib.Core.Bool.{Bool, true, false, not, _&&_, and-eq-true-iff, false≢true}
 use mathlib.Core.List.{List, [], _∷_}

@@ -1,5 +1,5 @@
--- What the past tells is what the board keeps: a command to this board, told to the tracker by frame and answer, shows running, address and
--- next of the state that it leaves. By its code.
+-- What the past tells is what the board keeps: a command to this board, given to the tracker by frame and answer, shows running, address
+-- and next of the state that it leaves. By its code.
 use mathlib.Core.Path.{_≡_, refl, sym, ap, _∙_}
 use mathlib.Core.Bool.{true, false, not, _&&_, _||_, and-false, and-eq-true-iff}
 use mathlib.Core.List.{List, [], _∷_}

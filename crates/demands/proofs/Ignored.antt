@@ -1,5 +1,5 @@
--- Demand 1, stray frames. A foreign or damaged frame is neither the reset nor a command to this board, and every other verdict keeps flash
--- and upload.
+-- Demand 1, frames to ignore. A foreign or damaged frame is neither the reset nor a command to this board, and every other verdict keeps
+-- flash and upload.
 use mathlib.Core.Path.{_≡_, refl, sym, ap, _∙_}
 use mathlib.Core.Logic.{inl, inr}
 use mathlib.Core.Bool.{Bool, true, false, not, _&&_, and-eq-true-iff, true≢false}

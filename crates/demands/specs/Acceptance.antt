@@ -1,4 +1,4 @@
--- Demand 2 over any board: what a well-framed request gets, judged by the past alone.
+-- Demand 2 over any board: what a well-framed request gets, by the past alone.
 use mathlib.Core.Path.{_≡_}
 use mathlib.Core.Bool.{Bool, true, false, _&&_}
 use mathlib.Core.List.{List, [], _∷_}

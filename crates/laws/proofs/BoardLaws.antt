@@ -107,7 +107,7 @@ module _ (p : Profile) (s : State) (d : List ℕ) where
       (λ e. rw e (nothing-formed p 1 s d formed))))
       (λ e. rw e (nothing-formed p (refusal p s (length d) n) s d formed))
 
-  -- where none of 2 to 5 applies, a frame is judged
+  -- where none of 2 to 5 applies, a frame is handled by its verdict
   pub received-handled : (a : ℕ) (f : List ℕ) (n : ℕ) → refusal p s (length d) n ≡ 0
       → received p s a f d n ≡ handled p s a f d (verdict (p .bus) (p .longest) (s .running) (s .address) a f)
   unfolding received
@@ -137,9 +137,4 @@ module _ (p : Profile) (s : State) (a : ℕ) (d : List ℕ) (n : ℕ) where
   pub readOut-state : readOut p s a d n .state ≡ s
   unfolding readOut
   readOut-state =
-      by-test (eqb (refusal p s (length d) n) 0) (λ e. by-test (readAnswered (p .bus) s a) (λ r. rw (e, r)) (λ r. rw (e, r))) (λ e. rw e)
-
-  pub readOut-flash : readOut p s a d n .flash ≡ d
-  unfolding readOut
-  readOut-flash =
       by-test (eqb (refusal p s (length d) n) 0) (λ e. by-test (readAnswered (p .bus) s a) (λ r. rw (e, r)) (λ r. rw (e, r))) (λ e. rw e)

@@ -190,13 +190,6 @@ module _ (width : ℕ) (k : Algorithm) (h : Bounded width k) where
   pub crc-lt : (bs : List ℕ) → ((i : ℕ) → getD bs i 0 < 2 ^ width) → crc k bs < 2 ^ width
   crc-lt bs hbs = run-lt (k .start) bs (h .start-lt) hbs
 
--- of bytes
-pub crc8-lt : (bs : List ℕ) → ((i : ℕ) → getD bs i 0 < 256) → crc crc8 bs < 256
-crc8-lt = crc-lt 8 crc8 crc8-bounded
-
-pub crc16-lt : (bs : List ℕ) → ((i : ℕ) → getD bs i 0 < 256) → crc crc16 bs < 65536
-crc16-lt bs bytes = crc-lt 16 crc16 crc16-bounded bs (λ i. omega (arith, bytes i))
-
 -- ---- the check sum at the end of a frame
 
 pub length-sum : (bus : Bus) (bs : List ℕ) → length (sum bus bs) ≡ sumLength bus

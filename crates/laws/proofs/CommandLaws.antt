@@ -1,4 +1,4 @@
--- Laws of the commands: whatever a command does, the upload stays well formed, flash keeps its length, and what it says fits a frame of M
+-- Laws of the commands: whatever a command does, the upload stays well formed, flash keeps its length, and its response fits a frame of M
 -- bytes. Why: M is at least 32; the serial has at most 16 bytes, read asks for no more than fits, the other results have at most five.
 use mathlib.Core.Path.{_≡_, refl, sym}
 use mathlib.Core.Bool.{true, _||_, and-eq-true-iff}
@@ -29,7 +29,7 @@ pub shortestReply-le : (bus : Bus) → shortestReply bus ≤ 5
 shortestReply-le I2c = omega arith
 shortestReply-le Rs485 = omega arith
 
--- what a command says fits a frame of M bytes
+-- the response of a command fits a frame of M bytes
 abbrev pub Fits : Profile → Response → Type 0
 Fits p (Reply status results) = shortestReply (p .bus) + length results ≤ p .longest
 Fits p NoReply = Unit

@@ -48,12 +48,12 @@ pub destination-request : (beside to code : ℕ) (arguments : List ℕ) → dest
 unfolding request sealed
 destination-request beside to code arguments = refl
 
--- an address that is heard is not the general call
+-- an address of the board is not the general call
 pub addressed-address : (bus : Bus) (own : Address) (a : ℕ) → addressed bus own a ≡ true → eqb a 0 ≡ false
 unfolding addressed
 addressed-address bus own a e = not-true (eqb a 0) (and-eq-true-iff (not (eqb a 0)) _ .0 e .0)
 
--- a request of at most M bytes to an address that is heard
+-- a request of at most M bytes to an address of the board
 pub framing-request : (bus : Bus) (M : ℕ) (own : Address) (beside to code : ℕ) (arguments : List ℕ)
     → destination bus beside (request bus to code arguments) ≡ to → addressed bus own to ≡ true → shortestRequest bus + length arguments ≤ M
     → framing bus M own beside (request bus to code arguments) ≡ Command

@@ -31,17 +31,6 @@ pub used-zero : (buffer : List ℕ) → used 0 buffer ≡ []
 unfolding used
 used-zero buffer = refl
 
--- a buffer that begins with the bytes
-pub used-append : (bytes rest : List ℕ) → used (length bytes) (bytes ++ rest) ≡ bytes
-used-append bytes rest =
-    used-take (length bytes) (bytes ++ rest) (simp length-append (omega arith)) ∙ take-at bytes rest (length bytes) refl
-
--- one byte more, stored behind those in use
-pub used-set : (n : ℕ) (buffer : List ℕ) (b : ℕ) → n < length buffer → used (n + 1) (set buffer n b) ≡ used n buffer ++ (b ∷ [])
-used-set n buffer b h =
-    used-take (n + 1) (set buffer n b) (simp length-set (omega arith))
-    ∙ rw (add-one, take-suc-set buffer n b h, used-take n buffer (omega arith))
-
 -- tests that hold together
 
 &&-true : (a b : Bool) → (a && b) ≡ true → (a ≡ true) × (b ≡ true)
@@ -89,23 +78,6 @@ inRange-facts p e =
       hardware-most = leb-true _ _ (types .1);
       serial-most = leb-true _ _ (hardware .1);
     }
-
-pub facts-inRange : (p : Profile) → ProfileFacts p → inRange p ≡ true
-unfolding inRange
-facts-inRange p f =
-    rw (
-      le-leb _ _ (f .longest-least),
-      le-leb _ _ (f .longest-most),
-      eq-eqb _ _ (f .page-is),
-      eq-eqb _ _ (f .size-paged),
-      le-leb _ _ (f .size-least),
-      le-leb _ _ (f .size-most),
-      eq-eqb _ _ (f .offset-paged),
-      le-leb _ _ (f .offset-most),
-      le-leb _ _ (f .hardware-least),
-      le-leb _ _ (f .hardware-most),
-      le-leb _ _ (f .serial-most),
-    )
 
 -- the malformed-state rule
 

@@ -1,5 +1,5 @@
--- What is kept between board and ledger from call to call, and the answers of which the ledger makes nothing: a refusal, silence, a reply
--- that says no OK to a write or a finalize. After these neither side has changed; after a reset both begin anew.
+-- What is kept between board and ledger from call to call, and the answers of which the ledger makes nothing: a refusal, no reply, a reply
+-- that is no OK to a write or a finalize. After these neither side has changed; after a reset both begin anew.
 use mathlib.Core.Path.{_≡_, refl, sym, _∙_}
 use mathlib.Core.Bool.{true, false, _&&_, false≢true}
 use mathlib.Core.List.{List, []}
@@ -76,7 +76,7 @@ module _ (p : Profile) (k : Ledger) (a : ℕ) (f : List ℕ) where
     closes = λ some. absurd (false≢true (sym (nothing-final (p .bus) f) ∙ some));
   }
 
-  -- a reply that says no OK to a write or a finalize
+  -- a reply that is no OK to a write or a finalize
   reply-no-entry : (address status : ℕ) (results : List ℕ) (s : State) (d : List ℕ)
       → (eqb (commandOf (p .bus) f) 0x06 && eqb status 0) ≡ false → (eqb (commandOf (p .bus) f) 0x07 && eqb status 0) ≡ false
       → Keeps p s d k → Entered p k a f (replied (p .bus) address (Reply status results) s d)

@@ -1,4 +1,4 @@
--- What a profile of the code says. The page is handed to the rules here and nowhere else: it is the state's own constant.
+-- What a profile of the code says. The page that the rules get is the state's own constant.
 use mathlib.Core.Bool.{cond}
 use Prim.Native.Nat.{ℕ}
 use lib.Dec.{eqb}

@@ -1,5 +1,5 @@
 -- The encoder makes the requests of an upload: writes of allowed lengths, the finalize, and reads of allowed lengths, to an address that
--- the board hears.
+-- the board has.
 use mathlib.Core.Path.{_≡_, refl}
 use mathlib.Core.Bool.{true, false, not, _&&_, and-eq-true-iff}
 use mathlib.Core.List.{List, [], _∷_, _++_}
@@ -30,7 +30,7 @@ shortestReply-within : (b : Bus) → (3 ≤ shortestReply b) × (shortestReply b
 shortestReply-within I2c = (omega arith, omega arith)
 shortestReply-within Rs485 = (omega arith, omega arith)
 
--- an address that is heard, and a byte, is one of the bus
+-- an address of the board, and a byte, is one of the bus
 addressed-within : (b : Bus) (own : Address) (a : ℕ) → addressed b own a ≡ true → a ≤ 255 → addressOver b a ≡ false
 unfolding addressed
 addressed-within I2c own a e byte =

@@ -1,5 +1,6 @@
--- One request and its answer, as a talk has them: a command that says OK and keeps the address is answered OK with its results, and leaves
--- the board ready for the next. By the statements on requests and replies; on I²C the answer is read at the same address.
+-- One request and its answer, as a list of exchanges has them: a command that answers OK and keeps the address is answered OK with its
+-- results, and leaves the board ready for the next. By the statements on requests and replies; on I²C the answer is read at the same
+-- address.
 use mathlib.Core.Path.{_≡_, refl, sym, subst, _∙_}
 use mathlib.Core.Bool.{true}
 use mathlib.Core.List.{List}
@@ -107,7 +108,7 @@ module _ (l : Line) (b : Board) (ready : Ready l b) (m : Message) where
     heard = subst (λ (a : Instruction). AddressedBy (l .profile) (b .state) (l .to) a) (sym is) (ready .stopped, ready .heard);
   }
 
-  -- a command that says OK, and keeps address and running
+  -- a command that answers OK, and keeps address and running
   pub exchange : (arguments said : List ℕ) (u : Upload) (d : List ℕ) → encoding x .number ≡ 0 → instruction x ≡ Commands code arguments
       → (code ≡ 0x08 → lengthSent (m .request) ≡ getD arguments 2 0)
       → performed (l .profile) (b .state) code arguments (b .flash)

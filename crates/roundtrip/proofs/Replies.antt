@@ -1,4 +1,4 @@
--- Every reply is read. The call is the command's own (`Requests`), what it says fits the decoder (`Responded`), and the decoder finds in a
+-- Every reply is read. The call is the command's own (`Requests`), its response fits the decoder (`Responded`), and the decoder finds in a
 -- whole reply just its status and results (`FrameLaws`). On I²C the reply is the last reply of the state that the call leaves.
 use mathlib.Core.Path.{_≡_, refl, sym, ap, subst, _∙_}
 use mathlib.Core.Bool.{true, false, _||_}
@@ -78,7 +78,7 @@ pub withLast-address : (b : Bus) (s : State) (r : List ℕ) → withLast b s r .
 withLast-address I2c s r = refl
 withLast-address Rs485 s r = refl
 
--- a call that replied on I²C is what a read at an address heard afterwards gives
+-- a call that replied on I²C is what a read at its address afterwards gives
 read-again : (p : Profile) (c : Called) (address buffer : ℕ) → p .bus ≡ I2c → refusal p (c .state) (length (c .flash)) buffer ≡ 0
     → c .state .running ≡ false → addressed I2c (c .state .address) address ≡ true → c .state .last ≡ c .reply
     → (length (c .reply) ≡ 0 → ⊥) → c .number ≡ 0
@@ -91,7 +91,7 @@ read-again p c address buffer i none stopped heard last some number =
     numbered : ℕ → List ℕ → Called
     numbered n r = record { number = n; reply = r; state = c .state; flash = c .flash }
 
--- an address of the bus but 0 is heard once it is taken
+-- an address of the bus but 0 is the board's once it is taken
 taken-addressed : (b : Bus) (a : ℕ) → addressOver b a ≡ false → (a ≡ 0 → ⊥) → addressed b (Own (addressTaken b a)) a ≡ true
 unfolding addressed
 taken-addressed I2c a over some =
@@ -195,7 +195,7 @@ module _ (x : Sending) (given : Given x) (code : ℕ) (arguments : List ℕ) (ta
               ∙ performed-setAddress (x .profile) (x .state) arguments (x .flash) in
               rw same (setAddress-taken (x .profile) (x .state) arguments (x .flash) status results (rw same at said))
 
--- a command, by what it says
+-- a command, by its response
 module _ (x : Sending) (given : Given x) (code : ℕ) (arguments : List ℕ) (taken : TakenAs x code arguments)
     (allowed : Allowed (bus x) (x .profile .longest) (x .to) code (length arguments))
     (address-fits : code ≡ 0x01 → addressOver (bus x) (getD arguments 0 0) ≡ false)

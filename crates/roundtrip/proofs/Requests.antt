@@ -1,5 +1,5 @@
 -- Every request is understood. A command's frame is well framed by its shape (`FrameLaws`) and by the encoder's own tests (`Made`), so the
--- board obeys it (`BoardLaws`), and the encoder asks the same table of argument lengths. A general call is its exact form.
+-- board executes it (`BoardLaws`), and the encoder asks the same table of argument lengths. A general call is its exact form.
 use mathlib.Core.Path.{_≡_, refl, _∙_}
 use mathlib.Core.Bool.{Bool, true, false, _||_}
 use mathlib.Core.List.{List, [], _∷_, _++_}

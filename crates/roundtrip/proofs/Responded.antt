@@ -1,4 +1,4 @@
--- What a command says fits the decoder: a status that it knows, and with OK at least the command's fixed part. Command by command
+-- The response of a command fits the decoder: a status that it knows, and with OK at least the command's fixed part. Command by command
 -- (`executed-cases`); a read within S shows as many bytes as it asks for. A command that replies keeps the board stopped, and only set
 -- address moves it.
 use mathlib.Core.Path.{_≡_, refl}
@@ -19,7 +19,7 @@ use Rattle.rules.specs.Master.{fixedPart, resultsMissing}
 use Rattle.laws.proofs.UploadLaws.{by-test}
 use Rattle.laws.proofs.CommandLaws.{executed-cases}
 
--- a command that says a status with results
+-- a command that responds with a status and results
 pub record Responding (s : State) (code asked : ℕ) (act : Acted) (status : ℕ) (results : List ℕ) : Type 0 where
   pub status-known : status ≤ 5
   pub enough : resultsMissing code asked status (length results) ≡ false
@@ -33,10 +33,7 @@ Responded s code asked act NoReply = Unit
 abbrev pub Responds : State → ℕ → ℕ → Acted → Type 0
 Responds s code asked act = Responded s code asked act (act .response)
 
--- a status other than OK needs no results; OK needs the fixed part
-other-status : (code asked status n : ℕ) → eqb status ok ≡ false → resultsMissing code asked status n ≡ false
-other-status code asked status n e = rw e
-
+-- OK needs the fixed part
 enough-results : (code asked n : ℕ) → fixedPart code asked ≤ n → resultsMissing code asked ok n ≡ false
 enough-results code asked n h = le-ltb n (fixedPart code asked) h
 

@@ -28,7 +28,7 @@ pub record Board : Type 0 where
   pub state : State
   pub flash : List ℕ
 
--- it isn't running, answers none of 2 to 5, and hears the address, which is a byte
+-- it isn't running, answers none of 2 to 5, and has the address, which is a byte
 pub record Ready (l : Line) (b : Board) : Type 0 where
   pub none-refused : refusal (l .profile) (b .state) (length (b .flash)) (l .buffer) ≡ 0
   pub stopped : b .state .running ≡ false

@@ -24,13 +24,13 @@ pub record TwoReads (code asked : ℕ) (first second : List ℕ) (which : ℕ) (
   pub which-is : whichRead code asked first second ≡ which
   pub results-are : resultBytes code asked first second ≡ results
 
--- where a board that replied hears: at the destination as before, after set address at the new address
+-- where a board that replied is addressed next: at the destination as before, after set address at the new address
 abbrev pub addressedNext : ℕ → ℕ → List ℕ → ℕ
 addressedNext to code arguments = cond (eqb code 0x01) (getD arguments 0 0) to
 
 -- a reply on I²C, which the master gets by reads; its read may be longer than the reply
 pub record ReadOut (x : Sending) (code asked status : ℕ) (results : List ℕ) : Type 0 where
-  -- a read at an address that the board hears afterwards gives the reply and changes nothing
+  -- a read at an address that the board has afterwards gives the reply and changes nothing
   pub read :
       (address buffer : ℕ) → addressed I2c (call x .state .address) address ≡ true → x .profile .longest ≤ buffer
       → readOut (x .profile) (call x .state) address (call x .flash) buffer ≡ call x
@@ -49,12 +49,12 @@ pub record Answered (x : Sending) (code : ℕ) (arguments : List ℕ) (asked sta
   pub next-addressed : (addressedNext (x .to) code arguments ≡ 0 → ⊥)
       → addressed (bus x) (call x .state .address) (addressedNext (x .to) code arguments) ≡ true
 
--- by what the command says: a reply that is read, or nothing to send
+-- by the command's response: a reply that is read, or nothing to send
 abbrev pub ResponseRead : Sending → ℕ → List ℕ → ℕ → Response → Type 0
 ResponseRead x code arguments asked (Reply status results) = Answered x code arguments asked status results
 ResponseRead x code arguments asked NoReply = call x .number ≡ 1
 
--- the decoder is told the length that a read asks for
+-- the decoder gets the length that a read asks for
 abbrev pub Replied : Sending → Instruction → Type 0
 Replied x (Commands code arguments) =
     (asked : ℕ) → (code ≡ 0x08 → asked ≡ getD arguments 2 0)

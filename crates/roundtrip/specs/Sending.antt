@@ -70,14 +70,14 @@ abbrev pub Beside : Bus → ℕ → ℕ → Type 0
 Beside I2c beside target = beside ≡ target
 Beside Rs485 beside target = Unit
 
--- a command is heard at an address of the board while it isn't running, a reset address by any board that isn't running, a reset by any
+-- a command reaches a board at its address while it isn't running, a reset address by any board that isn't running, a reset by any
 -- board
 abbrev pub AddressedBy : Profile → State → ℕ → Instruction → Type 0
 AddressedBy p s to (Commands code arguments) = (s .running ≡ false) × (addressed (p .bus) (s .address) to ≡ true)
 AddressedBy p s to AddressReset = s .running ≡ false
 AddressedBy p s to BoardReset = Unit
 
--- the encoder makes the request, and it is given to a board that hears it and answers none of 2 to 5
+-- the encoder makes the request, and it is given to a board that it reaches and that answers none of 2 to 5
 pub record Given (x : Sending) : Type 0 where
   pub made : encoding x .number ≡ 0
   pub sent : Beside (bus x) (x .beside) (target (x .to) (instruction x))

@@ -39,7 +39,7 @@ Carried (Read address n) bytes arguments = (numberAt arguments 0 ≡ address) ×
 Carried ResetAddress bytes arguments = Unit
 Carried Reset bytes arguments = Unit
 
--- every request that the encoder makes is taken by a board that hears it as that very command with those very arguments
+-- every request that the encoder makes is taken by a board that it reaches as that very command with those very arguments
 abbrev pub RequestsUnderstood : Type 0
 RequestsUnderstood =
     (x : Sending) → Given x → Understood x (instruction x) × Carried (x .request) (x .bytes) (argumentsOf (bus x) (frame x))

@@ -3,7 +3,7 @@ ghost use Rattle.roundtrip.specs.Understood.{RequestsUnderstood};
 ghost use Rattle.roundtrip.specs.ReadBack.{RepliesRead};
 ghost use Rattle.roundtrip.specs.UploadRoundtrip.{UploadRoundtrip};
 
-// Every request that the encoder makes is taken by a board that hears it as that very command with those very arguments.
+// Every request that the encoder makes is taken by a board at its address as that very command with those very arguments.
 pub fn requests_understood()
     ensures { λ _. ⌜ RequestsUnderstood ⌝ }
 {}

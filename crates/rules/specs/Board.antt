@@ -32,13 +32,13 @@ abbrev pub withLast : Bus → State → List ℕ → State
 withLast I2c s r = record { address = s .address; running = s .running; upload = s .upload; last = r }
 withLast Rs485 s r = record { address = s .address; running = s .running; upload = s .upload; last = [] }
 
--- after a write to this board its reply is the last reply; after a silent one there is none
+-- after a write to this board its reply is the last reply; after one without reply there is none
 abbrev pub replied : Bus → ℕ → Response → State → List ℕ → Called
 replied bus address (Reply status results) s d =
     record { number = 0; reply = reply bus address status results; state = withLast bus s (reply bus address status results); flash = d }
 replied bus address NoReply s d = nothing (withLast bus s []) d
 
--- what a command did, told to its sender
+-- what a command did, as an answer to its sender
 abbrev pub finishedCall : Bus → ℕ → Acted → Called
 finishedCall bus address a = replied bus address (a .response) (a .state) (a .flash)
 

@@ -60,7 +60,7 @@ invalidCrc = 4
 abbrev pub invalidArguments : ℕ
 invalidArguments = 5
 
--- what a command says: a status with its results, or nothing
+-- the response of a command: a status with its results, or nothing
 pub data Response : Type 0 where
   Reply : ℕ → List ℕ → Response
   NoReply : Response
@@ -83,7 +83,7 @@ abbrev pub addressTaken : Bus → ℕ → ℕ
 addressTaken I2c a = a % 128
 addressTaken Rs485 a = a
 
--- 0x01 set address: address, type (own or 0, else silence)
+-- 0x01 set address: address, type (own or 0, else no reply)
 unfoldable pub setAddress : Profile → State → List ℕ → List ℕ → Acted
 setAddress p s args d =
     cond (eqb (getD args 1 0) (p .hardware) || eqb (getD args 1 0) 0)
@@ -102,7 +102,7 @@ hardwareInfo p = p .hardware ∷ p .compatible ∷ p .version ∷ twoBytes (p .s
 abbrev pub serialNumber : Profile → State → List ℕ → Acted
 serialNumber p s d = cond (eqb (length (p .serial)) 0) (replying s d commandNotSupported []) (replying s d ok (p .serial))
 
--- 0x05 start: silence, running, waiting bytes lost (w = 0)
+-- 0x05 start: no reply, running, waiting bytes lost (w = 0)
 abbrev pub started : State → List ℕ → Acted
 started s d = record {
   response = NoReply;

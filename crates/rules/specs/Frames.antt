@@ -1,4 +1,4 @@
--- Document 01, "Frames and check sums": requests and replies as bytes on both buses, the addresses heard, the verdict on a frame.
+-- Document 01, "Frames and check sums": requests and replies as bytes on both buses, the addresses of a board, the verdict on a frame.
 use mathlib.Core.Bool.{Bool, true, false, cond, not, _&&_, _||_}
 use mathlib.Core.List.{List, [], _∷_, _++_}
 use Prim.Native.Nat.{ℕ, _+_, _-_, _/_, _%_, _*_}
@@ -102,7 +102,7 @@ framing Rs485 M own a f =
 abbrev pub isGeneral : Bus → ℕ → List ℕ → List ℕ → Bool
 isGeneral bus a f form = eqb (destination bus a f) 0 && same f form
 
--- what a received frame is; the reset is heard while running, nothing else is
+-- what a received frame is; while running only the reset counts
 unfoldable pub verdict : Bus → ℕ → Bool → Address → ℕ → List ℕ → Verdict
 verdict bus M running own a f =
     cond (isGeneral bus a f (resetFrame bus)) Reset

@@ -1,4 +1,4 @@
-// What a board or a master tells apart by name: the bus, the addresses heard, the verdict on a frame, the answers of the calls.
+// What a board or a master tells apart by name: the bus, the addresses of a board, the verdict on a frame, the answers of the calls.
 
 // Document 01, "bus": I²C or RS485.
 pub enum Bus {

@@ -29,15 +29,6 @@ upload-held page S u f =
       count-most = rw (length-waiting u) at (f .count-most);
     }
 
-pub held-upload : (page S : ℕ) (u : Upload) → HeldFacts page S u → UploadFacts page S (uploadOf u)
-held-upload page S u f =
-    record {
-      next-most = f .next-most;
-      waiting-most = rw (length-waiting u) (f .held-most);
-      count-most =
-          rw (length-waiting u) (f .count-most);
-    }
-
 -- the rule as a test on the numbers
 pub uploadFormed-held : (page S : ℕ) (u : Upload)
     → uploadFormed page S (uploadOf u) ≡ (leb (u .next) S && (leb (u .held) (u .next % page) && leb (u .count) (u .next - u .held)))

@@ -34,7 +34,7 @@ fn address_taken(bus: Bus, address: u8) -> u8
     }
 }
 
-// 0x01 set address: address, type (own or 0, else silence).
+// 0x01 set address: address, type (own or 0, else no reply).
 pub fn set_address(p: Profile, s: State, args: &[u8], out: &mut [u8], at: usize) -> Done
     requires { ⌜ (length (now args) ≡ 2) × (at ≤ length (now out)) ⌝ }
     ensures { λ r. ⌜ ((d : List ℕ) → commandEffect r d (now (out .exit))
@@ -51,7 +51,7 @@ pub fn set_address(p: Profile, s: State, args: &[u8], out: &mut [u8], at: usize)
     response::reply(s.with_address(Address::Own(own)), OK, &[], out, at)
 }
 
-// 0x05 start: silence, running, waiting bytes lost.
+// 0x05 start: no reply, running, waiting bytes lost.
 pub fn start(s: State) -> Done
     ensures { λ r. ⌜ ((d : List ℕ) (o : List ℕ) (at : ℕ) → commandEffect r d o ≡ ruledCommand (started (view s) d) o at) ⌝ }
 {

@@ -145,7 +145,3 @@ module _ {p : Profile} {u : Upload} (d : List ℕ) (ready : Ready p u (length d)
           formed = facts-uploadFormed page (p .size) (uploadOf r) (kept-upload p r e ready-finalized);
           next-is = ap (λ (g : Progress). g .upload .next) e ∙ next-finalized (profileOf p) (progressOf u d);
         }
-
--- the count is at most the next address, so two bytes hold it
-pub formed-count : {p : Profile} {u : Upload} {next : ℕ} → Formed p u next → u .count ≤ next
-formed-count {p} {u} f = omega (arith, f .next-is, uploadFormed-facts page (p .size) (uploadOf u) (f .formed) .count-most)

@@ -7,7 +7,7 @@ use state::State;
 use state::Upload;
 use widening::wide;
 ghost use mathlib.Core.Path.{_≡_};
-ghost use Prim.Native.Nat.{_+_, _≤_};
+ghost use Prim.Native.Nat.{_+_, _^_, _<_, _≤_};
 ghost use lib.ListN.{length};
 ghost use Rattle.rules.specs.Commands.{accepted, restarted, written, finished};
 ghost use Rattle.state.specs.View.{uploadOf, view};
@@ -16,7 +16,7 @@ ghost use Rattle.response.specs.Done.{commandEffect, ruledCommand, Serving};
 
 // A write is accepted at 0 or next if its data don't run past S, in no other case.
 fn accepts(size: usize, next: usize, address: usize, n: usize) -> bool
-    requires { ⌜ address + n ≤ 18446744073709551615 ⌝ }
+    requires { ⌜ address + n < 2 ^ 64 ⌝ }
     ensures { λ r. ⌜ r ≡ accepted size next address n ⌝ }
 {
     if address == 0 {

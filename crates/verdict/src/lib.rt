@@ -71,7 +71,7 @@ fn rs485_framing(longest: usize, own: Address, frame: &[u8]) -> Verdict
     Verdict::Command
 }
 
-// What a received frame is. The reset is heard while running, nothing else is.
+// What a received frame is. While running only the reset counts.
 pub fn classify(
     bus: Bus,
     longest: usize,

@@ -1,4 +1,4 @@
--- `board::receive` meets its contract: refused by the first of 2 to 5 that applies with all untouched, else judged.
+-- `board::receive` meets its contract: refused by the first of 2 to 5 that applies with all untouched, else handled.
 use Rattle.board.proofs.ServeLaws.{handled-number}
 use Rattle.answer.proofs.AnsweredLaws.{answered}
 use Rattle.profile.proofs.Laws.{check-passed, check-refused}

@@ -1,4 +1,4 @@
--- `board::serve` meets its contract: the frame is taken apart as the rules do, obeyed and answered.
+-- `board::serve` meets its contract: the frame is taken apart as the rules do, executed and answered.
 use Rattle.board.proofs.ServeLaws.{fits-served}
 use Rattle.board.proofs.ServeLaws.{take-drop, fits-counted}
 use Rattle.answer.specs.Answered.{Fits, expectedEffect}

@@ -1,4 +1,4 @@
--- `childbus_board::normalize::normalize` meets its contract: its two buffers are settled.
+-- `childbus_board::normalize::normalize` meets its contract: its two buffers are normalized.
 use borrow.Author.Needs.{needs}
 use Rattle.childbus_board.proofs.normalize.normalize.Statement.{statement}
 use Rattle.childbus_board.proofs.normalize.normalize.Tie as tie
