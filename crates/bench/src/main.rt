@@ -1,18 +1,18 @@
 // The bench: plays a board, and the master beside it, from a script of plain lines, and says in words what happened.
 // The script is the file that the first argument names, or standard input. The lines are listed by `help` and in docs/BENCH.md.
-use crate::turns::turn;
-use exchange::bench::Bench;
-use script::words::say;
-use settings::shown::tell_end;
+use crate::dispatch::run_next_line;
+use bench_exchange::bench::Bench;
+use bench_script::output::say;
+use bench_settings::shown::tell_end;
 
-mod turns;
+mod dispatch;
 
 // The whole script.
-fn run(fd: i32, line: &mut [u8], image: &mut [u8], flash: &mut [u8], history: &mut [u8]) {
+fn run_script(fd: i32, line: &mut [u8], image: &mut [u8], flash: &mut [u8], history: &mut [u8]) {
     let mut d = Bench::new();
     let mut turns = u64::MAX;
-    while 0 < turns && !d.over {
-        d = turn(d, fd, line, image, flash, history);
+    while 0 < turns && !d.script_ended {
+        d = run_next_line(d, fd, line, image, flash, history);
         turns -= 1;
     }
     tell_end(d);
@@ -24,8 +24,8 @@ fn start(fd: i32) {
     let mut image = [0u8; 131072];
     let mut flash = [0xffu8; 131072];
     let mut history = [0u8; 132096];
-    exchange::pages::begin(&flash, &mut history);
-    run(fd, &mut line, &mut image, &mut flash, &mut history);
+    bench_exchange::pages::restart_history(&flash, &mut history);
+    run_script(fd, &mut line, &mut image, &mut flash, &mut history);
 }
 
 // The script in a file.

@@ -1,5 +1,5 @@
 // One line of a case file, by its letter.
-use case_boards::call_board;
+use crate::boards::call_board;
 use case_masters::call_master;
 use case_setup::setup::Setup;
 use case_setup::setup::set_by;

@@ -1,6 +1,8 @@
 // Answers the calls of a case file with the library: tests/second/FORMAT.md says what the lines mean and what is written for each call.
 // The file is read from standard input, the answers go to standard output. A bad line changes nothing and is told on standard error by its
 // number. A line has at most 65,535 bytes; a longer one ends the run.
+mod answers;
+mod boards;
 mod lines;
 
 use crate::lines::Said;

@@ -1,0 +1,69 @@
+-- `bench::run_script` is safe and ends. The turns that are left fall.
+use mathlib.Core.Path.{_≡_}
+use lib.ListN.{length}
+use borrow.Author.Needs.{needs}
+use Rattle.bench.proofs.run_script.Statement.{statement}
+use Rattle.bench.proofs.run_script.Tie as tie
+
+abbrev Inv-loop : tie.InvT-loop
+Inv-loop fd line₀ image₀ flash₀ history₀ d₀ turns₀ line image flash history d turns =
+    (length line ≡ length line₀) × (length image ≡ length image₀) × (length flash ≡ length flash₀)
+    × (length history ≡ length history₀)
+
+abbrev μ-loop : tie.MeasureT-loop
+μ-loop fd line₀ image₀ flash₀ history₀ d₀ turns₀ line image flash history d turns = turns
+
+new-requires : tie.Need-new-requires Inv-loop μ-loop
+new-requires c κs = search needs
+
+loop-holds : tie.Need-loop-holds Inv-loop μ-loop
+loop-holds c = search needs
+
+run-next-line-requires : tie.Need-run-next-line-requires Inv-loop μ-loop
+run-next-line-requires c κs = search needs
+
+sub-turns : tie.Need-sub-turns Inv-loop μ-loop
+sub-turns c = search needs
+
+loop-less : tie.Need-loop-less Inv-loop μ-loop
+loop-less c = search needs
+
+loop-again : tie.Need-loop-again Inv-loop μ-loop
+loop-again c = search needs
+
+tell-end-requires : tie.Need-tell-end-requires Inv-loop μ-loop
+tell-end-requires c κs = search needs
+
+same-length : tie.Need-same-length Inv-loop μ-loop
+same-length c = search needs
+
+same-length-2 : tie.Need-same-length-2 Inv-loop μ-loop
+same-length-2 c = search needs
+
+same-length-3 : tie.Need-same-length-3 Inv-loop μ-loop
+same-length-3 c = search needs
+
+same-length-4 : tie.Need-same-length-4 Inv-loop μ-loop
+same-length-4 c = search needs
+
+returns : tie.Need-returns Inv-loop μ-loop
+returns c = search needs
+
+pub run-script-spec : {M : Type 1} → statement M
+run-script-spec =
+    tie.close
+    (tie.spec
+    Inv-loop
+    μ-loop
+    new-requires
+    loop-holds
+    run-next-line-requires
+    sub-turns
+    loop-less
+    loop-again
+    tell-end-requires
+    same-length
+    same-length-2
+    same-length-3
+    same-length-4
+    returns)

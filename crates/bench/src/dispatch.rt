@@ -1,0 +1,90 @@
+// A line of the script: read, shown again and run.
+use bench_exchange::bench::Bench;
+use bench_requests::calls;
+use bench_requests::plain;
+use bench_requests::uploads;
+use bench_script::fields::first;
+use bench_script::fields::is;
+use bench_script::fields::rest;
+use bench_script::fields::trimmed;
+use bench_script::lines;
+use bench_script::lines::Line;
+use bench_script::lines::is_comment;
+use bench_script::word::Word;
+use bench_script::word::word_named;
+use bench_settings::setup;
+use bench_settings::shown;
+
+// Runs a line by its first word.
+fn run_line(d: Bench, s: &[u8], image: &mut [u8], flash: &mut [u8], history: &mut [u8]) -> Bench {
+    let word = word_named(first(s));
+    let arguments = rest(s);
+    match word {
+        Word::Setup(w) => setup::run_line(d, w, arguments, image, flash, history),
+        Word::Show(w) => {
+            shown::run_line(d, w, history);
+            d
+        }
+        Word::Upload => uploads::run_line(d, arguments, image, flash, history),
+        Word::Call(w) => calls::run_line(d, w, arguments, image, flash, history),
+        Word::Plain(w) => plain::run_line(d, w, arguments, flash, history),
+        Word::Unknown => d.refused(b"a line that help lists, or # and a comment"),
+    }
+}
+
+// Shows a line again and runs it; `say` and comments are only shown.
+fn show_and_run_line(
+    d: Bench,
+    line: &[u8],
+    image: &mut [u8],
+    flash: &mut [u8],
+    history: &mut [u8],
+) -> Bench {
+    let s = trimmed(line);
+    if is_comment(s) {
+        shown::line(b"", s);
+        return d;
+    }
+    if is(first(s), b"say") {
+        shown::line(b"", rest(s));
+        return d;
+    }
+    shown::line(b"> ", s);
+    run_line(d, s, image, flash, history)
+}
+
+// Cleans the line in the first n bytes, and runs it.
+fn clean_and_run_line(
+    d: Bench,
+    line: &mut [u8],
+    n: usize,
+    image: &mut [u8],
+    flash: &mut [u8],
+    history: &mut [u8],
+) -> Bench {
+    if line.len() < n {
+        return d.ended();
+    }
+    lines::clean(&mut line[0..n]);
+    if line.len() < n {
+        return d.ended();
+    }
+    show_and_run_line(d, &line[0..n], image, flash, history)
+}
+
+// Reads and runs the next line of the script.
+pub fn run_next_line(
+    d: Bench,
+    fd: i32,
+    line: &mut [u8],
+    image: &mut [u8],
+    flash: &mut [u8],
+    history: &mut [u8],
+) -> Bench {
+    let got = lines::read_line(fd, line);
+    match got {
+        Line::End => d.ended(),
+        Line::Long => d.counted().refused(b"at most 2048 bytes in a line"),
+        Line::Text(n) => clean_and_run_line(d.counted(), line, n, image, flash, history),
+    }
+}
