@@ -223,7 +223,7 @@ fn deliver(
     flash: &mut [u8],
     history: &mut [u8],
 ) -> Exchange {
-    let v = library::judge(d.profile, d.state, asked.address, frame);
+    let v = library::classify(d.profile, d.state, asked.address, frame);
     let mut out = [0u8; 256];
     let a = library::receive(d.profile, d.state, asked.address, frame, flash, &mut out);
     update_and_tell(d, asked, a, v, flash, &mut out, expected, history)

@@ -22,7 +22,7 @@ pub(crate) fn read(p: Profile, s: State, address: u8, flash: &[u8], out: &mut [u
     readout::read(p, s, address, flash, out)
 }
 
-pub(crate) fn judge(p: Profile, s: State, address: u8, frame: &[u8]) -> Verdict {
+pub(crate) fn classify(p: Profile, s: State, address: u8, frame: &[u8]) -> Verdict {
     let own = s.address;
     let bus = p.bus;
     verdict::classify(bus, p.longest, s.running, own, address, frame)
