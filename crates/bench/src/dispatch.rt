@@ -10,10 +10,10 @@ use bench_script::fields::trimmed;
 use bench_script::lines;
 use bench_script::lines::Line;
 use bench_script::lines::is_comment;
-use bench_script::word::Word;
-use bench_script::word::word_named;
 use bench_settings::setup;
 use bench_settings::shown;
+use bench_words::Word;
+use bench_words::word_named;
 
 // Runs a line by its first word.
 fn run_line(d: Bench, s: &[u8], image: &mut [u8], flash: &mut [u8], history: &mut [u8]) -> Bench {

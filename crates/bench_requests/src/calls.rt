@@ -15,9 +15,9 @@ use bench_script::image::after_data;
 use bench_script::image::data;
 use bench_script::output::as_usize;
 use bench_script::output::say_with_number;
-use bench_script::word::CallWord;
 use bench_wording::reply::Asked;
 use bench_wording::reply::one;
+use bench_words::CallWord;
 use rules::kinds::Bus;
 use rules::requests::Request;
 

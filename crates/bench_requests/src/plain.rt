@@ -4,8 +4,8 @@ use bench_exchange::bench::FIRST_ADDRESS;
 use bench_exchange::requests::command;
 use bench_exchange::requests::general;
 use bench_exchange::requests::request;
-use bench_script::word::PlainWord;
 use bench_wording::reply::tell_count;
+use bench_words::PlainWord;
 use rules::requests::Request;
 
 // A command without arguments.

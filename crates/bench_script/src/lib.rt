@@ -3,4 +3,3 @@ pub mod fields;
 pub mod image;
 pub mod lines;
 pub mod output;
-pub mod word;

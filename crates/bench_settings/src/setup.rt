@@ -14,7 +14,7 @@ use bench_script::image::data_kind;
 use bench_script::image::file;
 use bench_script::image::fill;
 use bench_script::output::say_with_number;
-use bench_script::word::SetupWord;
+use bench_words::SetupWord;
 
 // `flash fill BYTE`
 fn flash_fill(d: Bench, value: &[u8], flash: &mut [u8], history: &mut [u8]) -> Bench {

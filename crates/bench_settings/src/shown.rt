@@ -7,7 +7,7 @@ use bench_script::output::min;
 use bench_script::output::say;
 use bench_script::output::say_address;
 use bench_script::output::say_with_number;
-use bench_script::word::ShowWord;
+use bench_words::ShowWord;
 use profile::Profile;
 use rules::kinds::Address;
 use rules::kinds::Bus;

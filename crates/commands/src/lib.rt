@@ -36,7 +36,7 @@ fn perform(
         0x05 => updates::start(s),
         0x06 => upload_commands::write(p, s, args, flash, out, at),
         0x07 => upload_commands::finalize(p, s, flash, out, at),
-        0x08 => queries::read(p, s, args, &flash[..], out, at),
+        0x08 => read_query::read(p, s, args, &flash[..], out, at),
         0x09 => queries::revision(p, s, out, at),
         _ => response::reply_number(s, p.longest, out, at),
     }

@@ -1,4 +1,3 @@
--- Calls of the code as they happened, the demands of them, and scripts of calls.
+-- Calls of the code as they happened, and the demands of them.
 pub mod Happened
 pub mod Met
-pub mod Script

@@ -1,79 +1,9 @@
 // The demands of the code itself: what `board::receive` and `readout::read` return on a list of calls is what the claims speak of.
-use answer::Answer;
-use profile::Profile;
-use state::State;
-ghost use mathlib.Core.Path.{_≡_};
-ghost use lib.ListN.{length, drop};
-ghost use Prim.Native.Nat.{_+_, _≤_};
-ghost use Rattle.refinement.specs.Happened.{Promised};
+// The crate `replay` runs such a list.
 ghost use Rattle.refinement.specs.Met.{CodeMeetsDemands};
-ghost use Rattle.refinement.specs.Script.{head, inputBy, frameLength, Left};
 
 // For every list of calls, each of which does what the contract of `board::receive` or `readout::read` promises on the state and the flash
 // that the last one left, from the fresh board with any flash: demands 1, 2 and 3. It does nothing.
 pub fn code_meets_demands()
     ensures { λ _. ⌜ CodeMeetsDemands ⌝ }
 {}
-
-// The bytes of a record before its frame: a kind, an address, a length in two bytes.
-const HEAD: usize = 4;
-
-// One call of a script: kind 0 is a received frame, any other an I²C read.
-fn call(
-    p: Profile,
-    s: State,
-    kind: u8,
-    address: u8,
-    frame: &[u8],
-    flash: &mut [u8],
-    out: &mut [u8],
-) -> Answer
-    ensures { λ r.
-        ⌜ Promised p s (now (flash .entry))
-        (record {
-          input = inputBy kind address (now (frame .entry));
-          before = now (out .entry);
-          after = now (out .exit);
-          answer = r;
-          flash = now (flash .exit);
-        }) ⌝ }
-{
-    if kind == 0 {
-        board::receive(p, s, address, frame, flash, out)
-    } else {
-        readout::read(p, s, address, flash, out)
-    }
-}
-
-// The length of the frame of the record at a place.
-fn frame_length(script: &[u8], at: usize) -> usize
-    requires { ⌜ at + head ≤ length (now script) ⌝ }
-    ensures { λ r. ⌜ r ≡ frameLength (drop at (now (script .entry))) ⌝ }
-{
-    let high = at + 2;
-    let low = at + 3;
-    script[high] as usize * 256 + script[low] as usize
-}
-
-// Runs a script, records of calls one after the other, on the real board from the fresh state: the state after its last call.
-// All three demands hold of the calls that it makes, and what it leaves is the ledger's. What is not a whole record ends a script.
-pub fn run(p: Profile, script: &[u8], flash: &mut [u8], out: &mut [u8]) -> State
-    ensures { λ r. ⌜ Left p (now (script .entry)) (now (flash .entry)) (now (out .entry)) r (now (flash .exit)) (now (out .exit)) ⌝ }
-{
-    let mut s = State::fresh();
-    let mut at = 0;
-    while script.len() - at >= HEAD {
-        let n = frame_length(script, at);
-        let start = at + HEAD;
-        if script.len() - start < n {
-            return s;
-        }
-        let end = start + n;
-        let kind = script[at];
-        let second = at + 1;
-        let answer = call(p, s, kind, script[second], &script[start..end], flash, out);
-        s = answer.state;
-        at = end;
-    }
-    s
-}

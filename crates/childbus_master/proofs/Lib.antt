@@ -1,2 +1,0 @@
--- Laws of the C boundary, for the master.
-pub mod MasterLaws

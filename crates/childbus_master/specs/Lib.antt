@@ -1,2 +1,0 @@
--- What each call of the master answers to C, and every byte that it leaves.
-pub mod MasterBytes

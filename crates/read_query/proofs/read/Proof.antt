@@ -1,0 +1,162 @@
+-- `read_query::read` meets its contract: its two tests are `readable`, and the part of flash that it lays over the buffer is the one asked.
+use Rattle.response.proofs.Laws.{few-fit, results-fit}
+use Rattle.rules.specs.Commands.{shown}
+use Rattle.rules.specs.Frames.{shortestReply}
+use borrow.Author.Tests.{le-leb, lt-leb}
+use lib.ListN.{length, getD, take, drop, length-take}
+use Prim.Native.Nat.{_+_, _-_, _*_, _<_, _≤_}
+use mathlib.Core.Path.{_≡_, refl, sym, ap, _∙_}
+use native.Mathlib.Omega.{arith}
+use borrow.Author.Needs.{needs}
+use Rattle.read_query.proofs.read.Statement.{statement}
+use Rattle.read_query.proofs.read.Tie as tie
+
+shared-slice-read-wide : tie.Need-shared-slice-read-wide
+shared-slice-read-wide c = search needs
+
+wide-requires : tie.Need-wide-requires
+wide-requires c κs = search needs
+
+mul-address : tie.Need-mul-address
+mul-address c = search needs
+
+shared-slice-read-wide-2 : tie.Need-shared-slice-read-wide-2
+shared-slice-read-wide-2 c = search needs
+
+wide-requires-2 : tie.Need-wide-requires-2
+wide-requires-2 c κs = search needs
+
+add-address : tie.Need-add-address
+add-address c = search needs
+
+shared-slice-read-wide-3 : tie.Need-shared-slice-read-wide-3
+shared-slice-read-wide-3 c = search needs
+
+wide-requires-3 : tie.Need-wide-requires-3
+wide-requires-3 c κs = search needs
+
+add-if1 : tie.Need-add-if1
+add-if1 c = search needs
+
+slice-aggregate-reply : tie.Need-slice-aggregate-reply
+slice-aggregate-reply c = search needs
+
+reply-requires : tie.Need-reply-requires
+reply-requires c κs =
+    let st = c .before .before .before .before .before .before .before .before .before .before .before .before .before in
+    few-fit (st .args .p) (st .args .s) _ _ (st .args .at) 0 (st .pre .0) (omega arith)
+
+same-length : tie.Need-same-length
+same-length c = search needs
+
+returns : tie.Need-returns
+unfolding shown
+returns c =
+    let t = c .before .before .before .before .before in
+    let w3 = t .before .before in
+    let w2 = w3 .before .before in
+    let w1 = w2 .before .before in
+    let st = w1 .before .before .before .before .before in
+    let args = st .args .args .now in
+    let over : st .args .p .size < getD args 0 0 * 256 + getD args 1 0 + getD args 2 0 =
+    omega (arith, t .if1 .taken, w1 .wide .ensures .0, w2 .wide2 .ensures .0, w3 .wide3 .ensures .0) in
+    rw (lt-leb _ _ over) (c .before .before .reply .ensures (st .args .flash .now))
+
+longest-results-requires : tie.Need-longest-results-requires
+longest-results-requires c κs = search needs
+
+slice-aggregate-reply-2 : tie.Need-slice-aggregate-reply-2
+slice-aggregate-reply-2 c = search needs
+
+reply-requires-2 : tie.Need-reply-requires-2
+reply-requires-2 c κs = search needs
+
+same-length-2 : tie.Need-same-length-2
+same-length-2 c = search needs
+
+returns-2 : tie.Need-returns-2
+unfolding shown
+returns-2 c =
+    let t = c .before .before .before .before .before in
+    let e = t .before .before in
+    let w3 = e .before .before in
+    let w2 = w3 .before .before in
+    let w1 = w2 .before .before in
+    let st = w1 .before .before .before .before .before in
+    let args = st .args .args .now in
+    let within : getD args 0 0 * 256 + getD args 1 0 + getD args 2 0 ≤ st .args .p .size =
+    omega (arith, e .if1 .left, w1 .wide .ensures .0, w2 .wide2 .ensures .0, w3 .wide3 .ensures .0) in
+    let over : st .args .p .longest - shortestReply (st .args .p .bus) < getD args 2 0 =
+    omega (arith, t .if2 .taken, t .before .longest-results .ensures, w3 .wide3 .ensures .0) in
+    rw (le-leb _ _ within, lt-leb _ _ over) (c .before .before .reply2 .ensures (st .args .flash .now))
+
+add-start : tie.Need-add-start
+add-start c = search needs
+
+add-end : tie.Need-add-end
+add-end c = search needs
+
+sub-reply : tie.Need-sub-reply
+sub-reply c = search needs
+
+part-reply-start : tie.Need-part-reply-start
+part-reply-start c = search needs
+
+part-reply-end : tie.Need-part-reply-end
+part-reply-end c = search needs
+
+reply-requires-3 : tie.Need-reply-requires-3
+reply-requires-3 c κs = search needs
+
+same-length-3 : tie.Need-same-length-3
+same-length-3 c = search needs
+
+returns-3 : tie.Need-returns-3
+unfolding shown
+returns-3 c =
+    let f = c .before .before .before .before .before .before in
+    let e = f .before .before in
+    let w3 = e .before .before in
+    let w2 = w3 .before .before in
+    let w1 = w2 .before .before in
+    let st = w1 .before .before .before .before .before in
+    let args = st .args .args .now in
+    let within : getD args 0 0 * 256 + getD args 1 0 + getD args 2 0 ≤ st .args .p .size =
+    omega (arith, e .if1 .left, w1 .wide .ensures .0, w2 .wide2 .ensures .0, w3 .wide3 .ensures .0) in
+    let held : getD args 2 0 ≤ st .args .p .longest - shortestReply (st .args .p .bus) =
+    omega (arith, f .if2 .left, f .before .longest-results .ensures, w3 .wide3 .ensures .0) in
+    let start = st .args .p .offset + (w1 .wide .result * 256 + w2 .wide2 .result) in
+    let long : start + w3 .wide3 .result - start ≡ w3 .wide3 .result = omega arith in
+    rw (le-leb _ _ within, le-leb _ _ held, ← w1 .wide .ensures .0, ← w2 .wide2 .ensures .0, ← w3 .wide3 .ensures .0)
+    (rw long at (c .before .before .reply3 .ensures (st .args .flash .now)))
+
+pub read-spec : {M : Type 1} → statement M
+read-spec =
+    tie.close
+    (tie.spec
+    shared-slice-read-wide
+    wide-requires
+    mul-address
+    shared-slice-read-wide-2
+    wide-requires-2
+    add-address
+    shared-slice-read-wide-3
+    wide-requires-3
+    add-if1
+    slice-aggregate-reply
+    reply-requires
+    same-length
+    returns
+    longest-results-requires
+    slice-aggregate-reply-2
+    reply-requires-2
+    same-length-2
+    returns-2
+    add-start
+    add-end
+    sub-reply
+    part-reply-start
+    part-reply-end
+    reply-requires-3
+    same-length-3
+    returns-3)

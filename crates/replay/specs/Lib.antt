@@ -1,0 +1,2 @@
+-- Scripts of calls, and what running one leaves.
+pub mod Script
