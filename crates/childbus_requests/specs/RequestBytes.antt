@@ -1,4 +1,5 @@
--- The master's requests over bytes: number, single result, and every byte of the output, for any numbers of 32 bits and any bytes of any length.
+-- The master's requests over bytes: number, single result, and every byte of the output, for any numbers of 32 bits and any bytes of any
+-- length.
 use mathlib.Core.Bool.{cond}
 use mathlib.Core.List.{List}
 use Prim.Native.Nat.{ℕ}
