@@ -1,0 +1,2 @@
+-- Laws behind the alarms.
+pub mod AlarmLaws
