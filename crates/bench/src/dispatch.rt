@@ -16,18 +16,18 @@ use bench_words::Word;
 use bench_words::word_named;
 
 // Runs a line by its first word.
-fn run_line(d: Bench, s: &[u8], image: &mut [u8], flash: &mut [u8], history: &mut [u8]) -> Bench {
+fn run_line(d: Bench, s: &[u8], memory: &mut [u8]) -> Bench {
     let word = word_named(first(s));
     let arguments = rest(s);
     match word {
-        Word::Setup(w) => setup::run_line(d, w, arguments, image, flash, history),
+        Word::Setup(w) => setup::run_line(d, w, arguments, memory),
         Word::Show(w) => {
-            shown::run_line(d, w, history);
+            shown::run_line(d, w, memory);
             d
         }
-        Word::Upload => uploads::run_line(d, arguments, image, flash, history),
-        Word::Call(w) => calls::run_line(d, w, arguments, image, flash, history),
-        Word::Plain(w) => plain::run_line(d, w, arguments, flash, history),
+        Word::Upload => uploads::run_line(d, arguments, memory),
+        Word::Call(w) => calls::run_line(d, w, arguments, memory),
+        Word::Plain(w) => plain::run_line(d, w, arguments, memory),
         Word::Unknown => d.refused(b"a line that help lists, or # and a comment"),
     }
 }
@@ -36,9 +36,7 @@ fn run_line(d: Bench, s: &[u8], image: &mut [u8], flash: &mut [u8], history: &mu
 fn show_and_run_line(
     d: Bench,
     line: &[u8],
-    image: &mut [u8],
-    flash: &mut [u8],
-    history: &mut [u8],
+    memory: &mut [u8],
 ) -> Bench {
     let s = trimmed(line);
     if is_comment(s) {
@@ -50,7 +48,7 @@ fn show_and_run_line(
         return d;
     }
     shown::line(b"> ", s);
-    run_line(d, s, image, flash, history)
+    run_line(d, s, memory)
 }
 
 // Cleans the line in the first n bytes, and runs it.
@@ -58,18 +56,16 @@ fn clean_and_run_line(
     d: Bench,
     line: &mut [u8],
     n: usize,
-    image: &mut [u8],
-    flash: &mut [u8],
-    history: &mut [u8],
+    memory: &mut [u8],
 ) -> Bench {
     if line.len() < n {
-        return d.ended();
+        return d.at_end();
     }
     lines::clean(&mut line[0..n]);
     if line.len() < n {
-        return d.ended();
+        return d.at_end();
     }
-    show_and_run_line(d, &line[0..n], image, flash, history)
+    show_and_run_line(d, &line[0..n], memory)
 }
 
 // Reads and runs the next line of the script.
@@ -77,14 +73,12 @@ pub fn run_next_line(
     d: Bench,
     fd: i32,
     line: &mut [u8],
-    image: &mut [u8],
-    flash: &mut [u8],
-    history: &mut [u8],
+    memory: &mut [u8],
 ) -> Bench {
     let got = lines::read_line(fd, line);
     match got {
-        Line::End => d.ended(),
+        Line::End => d.at_end(),
         Line::Long => d.counted().refused(b"at most 2048 bytes in a line"),
-        Line::Text(n) => clean_and_run_line(d.counted(), line, n, image, flash, history),
+        Line::Text(n) => clean_and_run_line(d.counted(), line, n, memory),
     }
 }

@@ -1,56 +1,80 @@
 // The bench: plays a board, and the master beside it, from a script of plain lines, and says in words what happened.
-// The script is the file that the first argument names, or standard input. The lines are listed by `help` and in docs/BENCH.md.
+// The script is the file that the first argument names, or standard input; a second argument names a file for the status.
+// The lines are listed by `help` and in docs/BENCH.md.
 use crate::dispatch::run_next_line;
 use bench_exchange::bench::Bench;
+use bench_exchange::memory::MEMORY;
+use bench_exchange::memory::fill_flash;
+use bench_script::fields::is;
 use bench_script::output::say;
+use bench_settings::shown::status;
 use bench_settings::shown::tell_end;
 
 mod dispatch;
 
-// The whole script.
-fn run_script(fd: i32, line: &mut [u8], image: &mut [u8], flash: &mut [u8], history: &mut [u8]) {
+// The whole script; its status.
+fn run_script(fd: i32, line: &mut [u8], memory: &mut [u8]) -> usize {
     let mut d = Bench::new();
     let mut turns = u64::MAX;
-    while 0 < turns && !d.script_ended {
-        d = run_next_line(d, fd, line, image, flash, history);
+    while 0 < turns && !d.ended {
+        d = run_next_line(d, fd, line, memory);
         turns -= 1;
     }
     tell_end(d);
+    status(d)
 }
 
-// A new bench: erased flash, and nothing rewritten.
-fn start(fd: i32) {
+// A new bench: erased flash, and nothing rewritten. Answers the script's status.
+fn start(fd: i32) -> usize {
     let mut line = [0u8; 2048];
-    let mut image = [0u8; 131072];
-    let mut flash = [0xffu8; 131072];
-    let mut history = [0u8; 132096];
-    bench_exchange::pages::restart_history(&flash, &mut history);
-    run_script(fd, &mut line, &mut image, &mut flash, &mut history);
+    let mut memory = [0u8; MEMORY];
+    fill_flash(&mut memory, 0xff);
+    run_script(fd, &mut line, &mut memory)
 }
 
-// The script in a file.
-fn start_file(path: &[u8]) {
+// Writes the status to the file that the argument at a place names, if there is one.
+fn write_status(at: usize, status: usize) {
+    if os::arg_count() <= at {
+        return;
+    }
+    let mut path = io::buffer();
+    let n = os::arg(at, &mut path);
+    let fd = os::open_overwrite(&path[0..n]);
+    if fd < 0 {
+        say(b"the status cannot be written\n");
+        return;
+    }
+    io::print_decimal(fd, status as u64);
+    libc::close(fd);
+}
+
+// The script in a file; its status, 2 if it cannot be read.
+fn start_file(path: &[u8]) -> usize {
     let fd = os::open_read(path);
     if fd < 0 {
         say(b"the script ");
         say(path);
         say(b" cannot be opened\n");
-        return;
+        return 2;
     }
-    start(fd);
+    let status = start(fd);
     libc::close(fd);
+    status
 }
 
-fn main() {
+// The script that the first argument names; `-` or none is standard input.
+fn start_named() -> usize {
     if os::arg_count() < 2 {
-        start(libc::STDIN_FILENO);
-        return;
+        return start(libc::STDIN_FILENO);
     }
     let mut path = io::buffer();
     let n = os::arg(1, &mut path);
-    if os::errno() != 0 {
-        say(b"the script's name is too long\n");
-        return;
+    if is(&path[0..n], b"-") {
+        return start(libc::STDIN_FILENO);
     }
-    start_file(&path[0..n]);
+    start_file(&path[0..n])
+}
+
+fn main() {
+    write_status(2, start_named());
 }

@@ -1,11 +1,40 @@
 // What the bench remembers between lines: the board's profile and state, and the master's side.
 use bench_script::output::increment;
 use bench_script::output::say;
-use bench_script::output::say_with_number;
+use bench_script::output::tell;
 use profile::Profile;
 use rules::kinds::Address;
 use rules::kinds::Bus;
 use state::State;
+
+// Which byte is to be damaged, from 1, and how many frames or replies pass before that; byte 0 for none.
+pub struct Damage {
+    pub byte: usize,
+    pub after: usize,
+}
+
+impl Damage {
+    pub fn none() -> Self {
+        Damage { byte: 0, after: 0 }
+    }
+
+    // The byte of this one that is to be damaged; 0 for none.
+    pub fn due(self) -> usize {
+        if self.after == 0 { self.byte } else { 0 }
+    }
+
+    // This one has passed.
+    pub fn passed(self) -> Self {
+        if self.after == 0 {
+            Damage::none()
+        } else {
+            Damage {
+                byte: self.byte,
+                after: self.after - 1,
+            }
+        }
+    }
+}
 
 pub struct Bench {
     pub profile: Profile,
@@ -15,14 +44,17 @@ pub struct Bench {
     // the command that the master sent last, and the length that it asked for
     pub code: usize,
     pub asked: usize,
-    // which byte of the next frame and of the next reply is to be damaged, from 1; 0 for none
-    pub frame_damage: usize,
-    pub reply_damage: usize,
+    // damage to a frame and to a reply on its way
+    pub frame: Damage,
+    pub reply: Damage,
     // lines read, and those among them that were not understood
     pub lines: usize,
     pub wrong: usize,
+    // calls that lost bytes, and uploads that failed
+    pub losses: usize,
+    pub failures: usize,
     // the script is at its end
-    pub script_ended: bool,
+    pub ended: bool,
 }
 
 // The board of a script that sets up none.
@@ -52,30 +84,19 @@ impl Bench {
             to: FIRST_ADDRESS,
             code: 0,
             asked: 0,
-            frame_damage: 0,
-            reply_damage: 0,
+            frame: Damage::none(),
+            reply: Damage::none(),
             lines: 0,
             wrong: 0,
-            script_ended: false,
+            losses: 0,
+            failures: 0,
+            ended: false,
         }
     }
 
     pub fn bus(self) -> Bus {
         let p = self.profile;
         p.bus
-    }
-
-    // The board's next address, waiting bytes and erase count.
-    pub fn next(self) -> usize {
-        self.state.upload.next
-    }
-
-    pub fn held(self) -> usize {
-        self.state.upload.held
-    }
-
-    pub fn count(self) -> usize {
-        self.state.upload.count
     }
 
     // Where the board listens.
@@ -92,43 +113,55 @@ impl Bench {
         self
     }
 
-    pub fn with_state(mut self, s: State) -> Self {
-        self.state = s;
-        self
-    }
-
     pub fn sending_to(mut self, to: usize) -> Self {
         self.to = to;
         self
     }
 
-    // The master sent a command.
-    pub fn asking(mut self, code: usize, asked: usize) -> Self {
+    // The master sent a command, and the board has another state after it.
+    pub fn exchanged(mut self, code: usize, asked: usize, s: State) -> Self {
         self.code = code;
         self.asked = asked;
-        self.frame_damage = 0;
+        self.state = s;
         self
     }
 
-    pub fn with_frame_damage(mut self, which: usize) -> Self {
-        self.frame_damage = which;
+    pub fn with_frame_damage(mut self, d: Damage) -> Self {
+        self.frame = d;
         self
     }
 
-    pub fn with_reply_damage(mut self, which: usize) -> Self {
-        self.reply_damage = which;
+    pub fn with_reply_damage(mut self, d: Damage) -> Self {
+        self.reply = d;
         self
     }
 
-    // The next reply is not damaged any more.
-    pub fn without_reply_damage(mut self) -> Self {
-        self.reply_damage = 0;
+    // After a reply of n bytes; 0 for none.
+    pub fn after_reply(mut self, n: usize) -> Self {
+        if 0 < n {
+            let d = self.reply;
+            self.reply = d.passed();
+        }
+        self
+    }
+
+    // A call that lost so many bytes.
+    pub fn losing(mut self, n: usize) -> Self {
+        if 0 < n {
+            self.losses = increment(self.losses);
+        }
+        self
+    }
+
+    // An upload that failed.
+    pub fn failing(mut self) -> Self {
+        self.failures = increment(self.failures);
         self
     }
 
     // The script is at its end.
-    pub fn ended(mut self) -> Self {
-        self.script_ended = true;
+    pub fn at_end(mut self) -> Self {
+        self.ended = true;
         self
     }
 
@@ -140,22 +173,13 @@ impl Bench {
 
     // A line that was not understood: it says what was expected, and changes nothing else.
     pub fn refused(mut self, expected: &[u8]) -> Self {
-        say_with_number(
-            b"  line ",
+        tell(
+            b"  line % is not understood and changes nothing. Expected:\n    ",
             self.lines,
-            b" is not understood and changes nothing. Expected:\n    ",
         );
         say(expected);
         say(b"\n");
         self.wrong = increment(self.wrong);
         self
-    }
-}
-
-// Where the master reads the reply: at the board's own address, or where it sent to.
-pub fn reply_address(own: Address, sent: u8) -> u8 {
-    match own {
-        Address::DefaultRange => sent,
-        Address::Own(a) => a,
     }
 }

@@ -1,40 +1,45 @@
 // One frame to the board, and the board's reply: sent, answered, decoded, and said in words.
 use crate::bench::Bench;
-use crate::bench::reply_address;
 use crate::library;
 use crate::pages;
-use answer::Answer;
 use bench_script::output::as_usize;
 use bench_script::output::say;
 use bench_script::output::say_byte;
 use bench_script::output::say_bytes;
-use bench_script::output::say_with_number;
+use bench_script::output::tell;
+use bench_wording::alarm;
 use bench_wording::changes::tell_changes;
-use bench_wording::changes::warn;
 use bench_wording::meaning;
 use bench_wording::reply::Asked;
 use bench_wording::reply::RequestResult;
 use bench_wording::reply::decode_reply;
 use bench_wording::reply::no_result;
 use numbers::board_number;
-use profile::Profile;
+use numbers::reply_length;
+use rules::kinds::Address;
 use rules::kinds::Bus;
 use rules::kinds::Outcome;
 use rules::kinds::Verdict;
 use state::State;
 
-// The bench after a request, and what the master got.
+// What came to the master: the first `len` bytes.
+pub struct Reply {
+    pub len: usize,
+    pub bytes: [u8; 256],
+}
+
+// The bench after a request, what the master made of the reply, and the reply.
 pub struct Exchange {
     pub bench: Bench,
     pub result: RequestResult,
+    pub reply: Reply,
 }
 
-fn tell_damage(which: usize, old: u8, new: u8) {
-    say_with_number(b"  byte ", which, b" damaged: ");
-    say_byte(old);
-    say(b" -> ");
-    say_byte(new);
-    say(b"\n");
+pub fn no_reply() -> Reply {
+    Reply {
+        len: 0,
+        bytes: [0u8; 256],
+    }
 }
 
 // The byte with every bit inverted.
@@ -43,211 +48,181 @@ fn inverted(b: u8) -> u8 {
 }
 
 // Damages a byte, counted from 1; 0 for none.
-fn invert_byte(s: &mut [u8], which: usize) {
+fn damage(s: &mut [u8], which: usize) {
     if which < 1 {
         return;
     }
     if s.len() < which {
-        say_with_number(b"  there is no byte ", which, b" to damage\n");
+        tell(b"  there is no byte % to damage\n", which);
         return;
     }
     let at = which - 1;
     let old = s[at];
     let new = inverted(old);
     s[at] = new;
-    tell_damage(which, old, new);
-}
-
-fn tell_request(address: u8, frame: &[u8]) {
-    say_with_number(b"  request to ", as_usize(address), b": ");
-    say_bytes(frame);
+    tell(b"  byte % damaged: ", which);
+    say_byte(old);
+    say(b" -> ");
+    say_byte(new);
     say(b"\n");
 }
 
-// The bytes that the master got.
-fn tell_reply(bus: Bus, at: u8, reply: &[u8]) {
-    match bus {
-        Bus::I2c => say_with_number(
-            b"  number 0, reply made; the master reads it at ",
-            as_usize(at),
-            b": ",
-        ),
-        Bus::Rs485 => say(b"  number 0, reply made: "),
-    }
-    say_bytes(reply);
+// Bytes behind a text with an address in it.
+fn tell_bytes(text: &[u8], address: u8, bytes: &[u8]) {
+    tell(text, as_usize(address));
+    say_bytes(bytes);
     say(b"\n");
 }
 
-// A reply comes to the master; byte `reply_damage` of it is damaged on its way.
-fn receive_reply(
-    asked: Asked,
-    at: u8,
-    reply_damage: usize,
-    reply: &mut [u8],
-    expected: &[u8],
-) -> RequestResult {
-    let bus = asked.bus;
-    if asked.verbose {
-        tell_reply(bus, at, reply);
+// Where the master reads the reply: at the board's own address, or where it sent to.
+fn reply_address(own: Address, sent: u8) -> u8 {
+    match own {
+        Address::DefaultRange => sent,
+        Address::Own(a) => a,
     }
-    invert_byte(reply, reply_damage);
-    decode_reply(asked, reply, expected)
 }
 
-// The first n bytes come to the master.
-fn receive_first(
-    asked: Asked,
-    at: u8,
-    reply_damage: usize,
-    n: usize,
-    out: &mut [u8],
-    expected: &[u8],
-) -> RequestResult {
-    if out.len() < n {
-        return no_result();
+// A reply of n bytes as it comes to the master.
+fn arrived(d: Bench, mut out: [u8; 256], n: usize, verbose: bool, at: u8) -> Reply {
+    let bus = d.bus();
+    if 256 < n {
+        return no_reply();
     }
-    receive_reply(asked, at, reply_damage, &mut out[0..n], expected)
+    if verbose {
+        match bus {
+            Bus::I2c => tell_bytes(
+                b"  number 0, reply made; the master reads it at %: ",
+                at,
+                &out[0..n],
+            ),
+            Bus::Rs485 => tell_bytes(b"  number 0, reply made: ", at, &out[0..n]),
+        }
+    }
+    damage(&mut out[0..n], d.reply.due());
+    Reply { len: n, bytes: out }
 }
 
 // The master's I²C read at an address.
-pub fn read_back(
-    p: Profile,
-    s: State,
-    asked: Asked,
-    at: u8,
-    reply_damage: usize,
-    flash: &[u8],
-    expected: &[u8],
-) -> RequestResult {
+pub fn read_reply(d: Bench, verbose: bool, at: u8, memory: &[u8]) -> Reply {
     let mut out = [0u8; 256];
-    let a = library::read(p, s, at, flash, &mut out);
+    let a = library::read(d.profile, d.state, at, memory, &mut out);
     let outcome = a.outcome;
     match outcome {
-        Outcome::Reply(n) => receive_first(asked, at, reply_damage, n, &mut out, expected),
+        Outcome::Reply(n) => arrived(d, out, n, verbose, at),
         Outcome::Nothing => {
             meaning::tell_no_read();
-            no_result()
+            no_reply()
         }
         _ => {
             meaning::tell_number(board_number(outcome) as usize);
-            no_result()
+            no_reply()
         }
     }
 }
 
-// The board's answer, said in words: a reply is sent on RS485, and read by the master on I²C.
-fn answered(
-    d: Bench,
-    asked: Asked,
+// What the master makes of a reply: no result where none came.
+pub fn decoded(asked: Asked, r: Reply) -> RequestResult {
+    let n = r.len;
+    let bytes = r.bytes;
+    if n == 0 {
+        return no_result();
+    }
+    decode_reply(asked, library::part(&bytes, 0, n))
+}
+
+// What the board did with a frame: its answer, and what must not be missed.
+struct Called {
     outcome: Outcome,
     verdict: Verdict,
-    flash: &[u8],
-    out: &mut [u8],
-    expected: &[u8],
-) -> RequestResult {
-    let Outcome::Reply(n) = outcome else {
-        meaning::tell_answer(outcome, verdict, asked.code);
-        return no_result();
-    };
-    let bus = asked.bus;
-    match bus {
-        Bus::I2c => {
-            let at = reply_address(d.own(), asked.address);
-            read_back(
-                d.profile,
-                d.state,
-                asked,
-                at,
-                d.reply_damage,
-                flash,
-                expected,
-            )
-        }
-        Bus::Rs485 => receive_first(asked, asked.address, d.reply_damage, n, out, expected),
-    }
-}
-
-// Says what changed since a state.
-fn tell_since(
-    verbose: bool,
-    offset: usize,
-    before: State,
-    after: State,
-    flash: &[u8],
-    history: &mut [u8],
-) {
-    let rewritten = pages::track(verbose, offset, after.upload.next, flash, history);
-    if verbose {
-        tell_changes(before, after, rewritten);
-    }
-}
-
-// Puts the board's new state on the bench, and says what the board answered and what changed.
-fn update_and_tell(
-    d: Bench,
-    asked: Asked,
-    a: Answer,
-    verdict: Verdict,
-    flash: &[u8],
-    out: &mut [u8],
-    expected: &[u8],
-    history: &mut [u8],
-) -> Exchange {
-    let after = a.state;
-    let outcome = a.outcome;
-    let now = d.with_state(after);
-    let result = answered(now, asked, outcome, verdict, flash, out, expected);
-    if asked.verbose {
-        warn(d.state, after, asked.code, result.status);
-    }
-    tell_since(
-        asked.verbose,
-        d.profile.offset,
-        d.state,
-        after,
-        flash,
-        history,
-    );
-    Exchange {
-        bench: now.without_reply_damage(),
-        result,
-    }
+    state: State,
+    out: [u8; 256],
+    lost: usize,
+    unworn: bool,
 }
 
 // Gives a frame to the board as it arrives there.
-fn deliver(
-    d: Bench,
-    asked: Asked,
-    frame: &[u8],
-    expected: &[u8],
-    flash: &mut [u8],
-    history: &mut [u8],
-) -> Exchange {
-    let v = library::classify(d.profile, d.state, asked.address, frame);
+fn call_board(d: Bench, asked: Asked, frame: &[u8], memory: &mut [u8]) -> Called {
+    let verdict = library::classify(d.profile, d.state, asked.address, frame);
     let mut out = [0u8; 256];
-    let a = library::receive(d.profile, d.state, asked.address, frame, flash, &mut out);
-    update_and_tell(d, asked, a, v, flash, &mut out, expected, history)
+    let a = library::receive(d.profile, d.state, asked.address, frame, memory, &mut out);
+    let outcome = a.outcome;
+    let state = a.state;
+    let bus = asked.bus;
+    let number = board_number(outcome) as usize;
+    let after = state.upload;
+    Called {
+        outcome,
+        verdict,
+        state,
+        out,
+        lost: library::lost(d.profile.offset, d.state.upload, after, memory),
+        unworn: library::erased_nothing(bus, frame, number, &out, after),
+    }
+}
+
+// The reply as it comes to the master: sent on RS485, read on I²C.
+fn fetched(d: Bench, asked: Asked, c: Called, memory: &[u8]) -> Reply {
+    let outcome = c.outcome;
+    let v = c.verdict;
+    let Outcome::Reply(n) = outcome else {
+        meaning::tell_answer(outcome, v, asked.code);
+        return no_reply();
+    };
+    let bus = asked.bus;
+    let out = c.out;
+    match bus {
+        Bus::I2c => read_reply(
+            d,
+            asked.verbose,
+            reply_address(d.own(), asked.address),
+            memory,
+        ),
+        Bus::Rs485 => arrived(d, out, n, asked.verbose, asked.address),
+    }
+}
+
+// What must not be missed after a call. Bytes that wait are said with each call that is said at all.
+fn tell_alarms(verbose: bool, c: Called, status: usize) {
+    let after = c.state.upload;
+    alarm::tell_lost(c.lost);
+    if verbose {
+        alarm::tell_waiting_after(status == 0, library::waiting(after));
+    }
+    if c.unworn {
+        alarm::tell_unworn(after.next);
+    }
+}
+
+// What changed in flash and state.
+fn tell_since(verbose: bool, d: Bench, after: State, memory: &mut [u8]) {
+    let rewritten = pages::track(verbose, d.profile.offset, after.upload.next, memory);
+    if verbose {
+        tell_changes(d.state, after, rewritten);
+    }
+}
+
+// Gives a frame to the board, and says what the board answered and what changed.
+fn deliver(d: Bench, asked: Asked, frame: &[u8], memory: &mut [u8]) -> Exchange {
+    let c = call_board(d, asked, frame, memory);
+    let now = d.exchanged(asked.code, asked.length, c.state).losing(c.lost);
+    let reply = fetched(now, asked, c, memory);
+    let result = decoded(asked, reply);
+    tell_alarms(asked.verbose, c, result.status);
+    tell_since(asked.verbose, d, c.state, memory);
+    let outcome = c.outcome;
+    Exchange {
+        bench: now.after_reply(reply_length(outcome)),
+        result,
+        reply,
+    }
 }
 
 // Sends a frame, with one byte damaged if the script asked for that, and says what happened.
-pub fn send(
-    d: Bench,
-    asked: Asked,
-    frame: &mut [u8],
-    expected: &[u8],
-    flash: &mut [u8],
-    history: &mut [u8],
-) -> Exchange {
+pub fn send(d: Bench, asked: Asked, frame: &mut [u8], memory: &mut [u8]) -> Exchange {
     if asked.verbose {
-        tell_request(asked.address, frame);
+        tell_bytes(b"  request to %: ", asked.address, frame);
     }
-    invert_byte(frame, d.frame_damage);
-    deliver(
-        d.asking(asked.code, asked.length),
-        asked,
-        frame,
-        expected,
-        flash,
-        history,
-    )
+    let hit = d.frame;
+    damage(frame, hit.due());
+    deliver(d.with_frame_damage(hit.passed()), asked, frame, memory)
 }

@@ -2,5 +2,6 @@
 pub mod bench;
 pub mod frames;
 mod library;
+pub mod memory;
 pub mod pages;
 pub mod requests;

@@ -1,111 +1,110 @@
-// Which pages the board rewrote. The history is a copy of the flash, and behind it a count for each page of the working flash.
-// After each call flash and copy are compared where the upload stands.
-use bench_script::image::copy;
+// Which pages the board rewrote: after each call the flash is compared with its copy where the upload stands.
+use crate::library;
+use crate::memory::COPY;
+use crate::memory::COUNTS;
+use crate::memory::FLASH;
+use crate::memory::MEMORY;
+use crate::memory::PAGES;
 use bench_script::output::increment;
-use bench_script::output::say_with_number;
-use flash::matches;
+use bench_script::output::say;
+use bench_script::output::tell;
+use profile::Profile;
 use state::State;
 
-// A page of the board.
-pub const PAGE: usize = State::PAGE;
-// The length of the lent flash, and of its copy.
-pub const FLASH: usize = 131072;
-
-// Where a page of the working flash begins in the lent flash; past every flash if that is far away.
-fn page_start(offset: usize, page: usize) -> usize {
-    if 1000000 < offset {
-        return 1000000;
-    }
-    if 1024 < page {
-        return 1000000;
-    }
-    offset + page * PAGE
-}
-
-// Whether the page that begins at a place differs from its copy, which is then made anew.
-fn page_changed(at: usize, flash: &[u8], history: &mut [u8]) -> bool {
-    if FLASH - PAGE < at {
-        return false;
-    }
-    let end = at + PAGE;
-    if flash.len() < end {
-        return false;
-    }
-    if history.len() < end {
-        return false;
-    }
-    if matches(&flash[at..end], &history[at..end]) {
-        return false;
-    }
-    copy(&flash[at..end], &mut history[at..end]);
-    true
-}
-
 // How often a page was rewritten.
-pub fn times(page: usize, history: &[u8]) -> u8 {
-    if 1024 <= page {
+pub fn times(page: usize, memory: &[u8]) -> u8 {
+    if PAGES <= page {
         return 0;
     }
-    let at = FLASH + page;
-    if at < history.len() { history[at] } else { 0 }
+    if memory.len() < MEMORY {
+        return 0;
+    }
+    memory[COUNTS + page]
 }
 
 // One more rewriting of a page.
-fn count_page(page: usize, history: &mut [u8]) {
-    if 1024 <= page {
+fn count_page(page: usize, memory: &mut [u8]) {
+    if PAGES <= page {
         return;
     }
-    let at = FLASH + page;
-    if history.len() <= at {
+    if memory.len() < MEMORY {
         return;
     }
-    let n = history[at];
+    let n = memory[COUNTS + page];
     if n < 255 {
-        history[at] = n + 1;
+        memory[COUNTS + page] = n + 1;
     }
 }
 
-// Starts the history anew: every count is 0, and the copy is as the flash.
-pub fn restart_history(flash: &[u8], history: &mut [u8]) {
-    let all = history.len();
-    bench_script::image::fill(history, all, 0);
-    copy(flash, history);
+// Makes the copy of a page anew.
+fn copy_page(offset: usize, page: usize, memory: &mut [u8]) {
+    if FLASH < offset {
+        return;
+    }
+    if PAGES < page {
+        return;
+    }
+    if memory.len() < MEMORY {
+        return;
+    }
+    let at = offset + page * State::PAGE;
+    if FLASH - State::PAGE < at {
+        return;
+    }
+    let mut i = 0;
+    while i < State::PAGE {
+        memory[COPY + at + i] = memory[at + i];
+        i += 1;
+    }
 }
 
-// A page that may have been rewritten: 1 if it was, else 0.
-fn track_page(
-    verbose: bool,
-    offset: usize,
-    page: usize,
-    flash: &[u8],
-    history: &mut [u8],
-) -> usize {
-    if !page_changed(page_start(offset, page), flash, history) {
-        return 0;
+// A page that may have been rewritten: whether it was.
+fn track_page(verbose: bool, offset: usize, page: usize, memory: &mut [u8]) -> bool {
+    if !library::page_changed(offset, page, memory) {
+        return false;
     }
-    count_page(page, history);
+    copy_page(offset, page, memory);
+    count_page(page, memory);
     if verbose {
-        say_with_number(b"  changed: page ", page, b" erased and rewritten\n");
+        tell(b"  changed: page % erased and rewritten\n", page);
     }
-    1
+    true
 }
 
 // The first of the pages that a frame may have reached whose last byte is at `next`.
 fn first_page(next: usize) -> usize {
-    if next / PAGE < 5 { 0 } else { next / PAGE - 5 }
+    if next / State::PAGE < 5 {
+        0
+    } else {
+        next / State::PAGE - 5
+    }
 }
 
 // Whether a page was rewritten, up to the page of `next`.
-pub fn track(verbose: bool, offset: usize, next: usize, flash: &[u8], history: &mut [u8]) -> bool {
+pub fn track(verbose: bool, offset: usize, next: usize, memory: &mut [u8]) -> bool {
     let mut page = first_page(next);
     let mut n = 0;
     let mut turns = 6usize;
     while 0 < turns {
         turns -= 1;
-        if track_page(verbose, offset, page, flash, history) == 1 {
+        if track_page(verbose, offset, page, memory) {
             n = 1;
         }
         page = increment(page);
     }
     n == 1
+}
+
+// Says each page that changed since the first write of an upload.
+pub fn tell_uploaded(p: Profile, memory: &[u8]) {
+    say(b"  changed since the first write: page");
+    let offset = p.offset;
+    let mut page = 0;
+    while page < PAGES {
+        if library::page_uploaded(offset, page, memory) {
+            tell(b" %", page);
+        }
+        page += 1;
+    }
+    say(b"\n");
 }

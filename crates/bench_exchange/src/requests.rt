@@ -1,11 +1,17 @@
 // Requests that the master makes and sends.
 use crate::bench::Bench;
 use crate::frames::Exchange;
+use crate::frames::no_reply;
 use crate::frames::send;
-use crate::library::encode;
+use crate::library;
+use crate::memory::FLASH;
+use crate::memory::IMAGE;
+use alarms::uploads::UploadEnd;
+use bench_script::output::min;
 use bench_wording::meaning;
 use bench_wording::reply::Asked;
 use bench_wording::reply::no_result;
+use bench_wording::reply::part;
 use rules::requests::Encoded;
 use rules::requests::Request;
 
@@ -13,42 +19,51 @@ fn unsent(d: Bench) -> Exchange {
     Exchange {
         bench: d,
         result: no_result(),
+        reply: no_reply(),
     }
 }
 
-// The first n bytes of a frame.
-fn sent(
+// Makes a request, with the bytes of the image from one place to another as data.
+fn encode(
     d: Bench,
-    asked: Asked,
+    r: Request,
+    from: usize,
+    end: usize,
+    memory: &[u8],
     frame: &mut [u8],
-    n: usize,
-    bytes: &[u8],
-    flash: &mut [u8],
-    history: &mut [u8],
-) -> Exchange {
-    if frame.len() < n {
-        return unsent(d);
-    }
-    send(d, asked, &mut frame[0..n], bytes, flash, history)
+) -> Encoded {
+    let bus = d.bus();
+    let last = min(end, FLASH);
+    let first = min(from, last);
+    library::encode(
+        bus,
+        d.profile.longest,
+        r,
+        d.to,
+        library::part(memory, IMAGE + first, last - first),
+        frame,
+    )
 }
 
-// A request that the master makes and sends. The bytes are a write's data, or what a read should give.
+// A request that the master makes and sends. A write's data are the bytes of the image from one place to another.
 pub fn request(
     d: Bench,
     r: Request,
     asked: Asked,
-    bytes: &[u8],
-    flash: &mut [u8],
-    history: &mut [u8],
+    from: usize,
+    end: usize,
+    memory: &mut [u8],
 ) -> Exchange {
-    let bus = asked.bus;
     let mut frame = [0u8; 512];
-    let e = encode(bus, d.profile.longest, r, d.to, bytes, &mut frame);
+    let e = encode(d, r, from, end, memory, &mut frame);
     let Encoded::Made(n) = e else {
         meaning::tell_unmade(e);
         return unsent(d);
     };
-    sent(d, asked, &mut frame, n, bytes, flash, history)
+    if 512 < n {
+        return unsent(d);
+    }
+    send(d, asked, &mut frame[0..n], memory)
 }
 
 // A command to where the master sends.
@@ -71,4 +86,36 @@ pub fn general(d: Bench) -> Asked {
         address: 0,
         verbose: true,
     }
+}
+
+// How many bytes of the board's upload wait.
+pub fn waiting(d: Bench) -> usize {
+    let u = d.state.upload;
+    library::waiting(u)
+}
+
+// How many waiting bytes are lost if the board is exchanged for a fresh one.
+pub fn lost_with_board(d: Bench, fresh: Bench, memory: &[u8]) -> usize {
+    library::lost(
+        d.profile.offset,
+        d.state.upload,
+        fresh.state.upload,
+        memory,
+    )
+}
+
+// How an upload of the first n bytes of the image ended.
+pub fn upload_end(d: Bench, n: usize, memory: &[u8]) -> UploadEnd {
+    library::upload_end(d.profile, n, memory)
+}
+
+// Whether a read gave the bytes of the image from one place to another.
+pub fn is_image(e: Exchange, from: usize, end: usize, memory: &[u8]) -> bool {
+    let last = min(end, FLASH);
+    let first = min(from, last);
+    let bytes = e.reply.bytes;
+    flash::matches(
+        part(&bytes, e.result.start, e.result.len),
+        library::part(memory, IMAGE + first, last - first),
+    )
 }

@@ -1,10 +1,13 @@
 // Lines by which the master makes a request with arguments, sends a frame as it is, or reads.
 use bench_exchange::bench::Bench;
 use bench_exchange::frames::Exchange;
-use bench_exchange::frames::read_back;
+use bench_exchange::frames::decoded;
+use bench_exchange::frames::read_reply;
 use bench_exchange::frames::send;
+use bench_exchange::memory::load_data;
 use bench_exchange::requests::command;
 use bench_exchange::requests::request;
+use bench_exchange::requests::waiting;
 use bench_script::fields::Parsed;
 use bench_script::fields::first;
 use bench_script::fields::hex;
@@ -12,48 +15,46 @@ use bench_script::fields::is;
 use bench_script::fields::number;
 use bench_script::fields::rest;
 use bench_script::image::after_data;
-use bench_script::image::data;
 use bench_script::output::as_usize;
-use bench_script::output::say_with_number;
+use bench_script::output::tell;
+use bench_wording::alarm::tell_waiting_after;
 use bench_wording::reply::Asked;
 use bench_wording::reply::one;
 use bench_words::CallWord;
 use rules::kinds::Bus;
 use rules::requests::Request;
 
-// More bytes than any image has.
-const WRONG: usize = 10000000;
+// The most bytes that a line of digits gives.
+const RAW: usize = 1024;
 
-fn set_address_to(
-    d: Bench,
-    address: usize,
-    hardware: usize,
-    flash: &mut [u8],
-    history: &mut [u8],
-) -> Bench {
-    let asked = command(d, 0x01, 0, true);
-    let r = Request::SetAddress { address, hardware };
-    let done = request(d, r, asked, b"", flash, history);
-    moved(done, address)
-}
-
-// `set-address ADDRESS type TYPE`
-fn set_address(d: Bench, s: &[u8], flash: &mut [u8], history: &mut [u8]) -> Bench {
+// `ADDRESS type TYPE`: the request; Plain(0) for wrong ones.
+fn set_address_request(s: &[u8]) -> Request {
     let new = number(first(s), 65535);
-    let kind = hardware_type(rest(s));
-    if let Parsed::Value(address) = new {
-        if let Parsed::Value(hardware) = kind {
-            return set_address_to(d, address, hardware, flash, history);
-        }
+    let Parsed::Value(address) = new else {
+        return Request::Plain(0);
+    };
+    let more = rest(s);
+    if !is(first(more), b"type") {
+        return Request::Plain(0);
     }
-    d.refused(b"set-address ADDRESS type TYPE")
+    let kind = number(rest(more), 65535);
+    let Parsed::Value(hardware) = kind else {
+        return Request::Plain(0);
+    };
+    Request::SetAddress { address, hardware }
 }
 
-fn hardware_type(s: &[u8]) -> Parsed {
-    if is(first(s), b"type") {
-        return number(rest(s), 65535);
-    }
-    Parsed::Wrong
+// `ADDRESS LENGTH`: the request; Plain(0) for wrong ones.
+fn read_request(s: &[u8]) -> Request {
+    let place = number(first(s), 100000);
+    let Parsed::Value(address) = place else {
+        return Request::Plain(0);
+    };
+    let count = number(rest(s), 100000);
+    let Parsed::Value(length) = count else {
+        return Request::Plain(0);
+    };
+    Request::Read { address, length }
 }
 
 // The master follows the board to its new address.
@@ -62,63 +63,55 @@ fn moved(done: Exchange, address: usize) -> Bench {
     if done.result.status != 0 {
         return d;
     }
-    say_with_number(b"  the master sends to ", address, b" from now on\n");
+    tell(b"  the master sends to % from now on\n", address);
     d.sending_to(address)
 }
 
-fn write_at(d: Bench, address: usize, bytes: &[u8], flash: &mut [u8], history: &mut [u8]) -> Bench {
-    let asked = command(d, 0x06, 0, true);
-    let r = Request::Write { address };
-    let done = request(d, r, asked, bytes, flash, history);
+// `set-address ADDRESS type TYPE`
+fn set_address(d: Bench, s: &[u8], memory: &mut [u8]) -> Bench {
+    let r = set_address_request(s);
+    let Request::SetAddress { address, hardware } = r else {
+        return d.refused(b"set-address ADDRESS type TYPE");
+    };
+    let done = request(d, r, command(d, 0x01, 0, true), 0, 0, memory);
+    moved(done, address)
+}
+
+// `read ADDRESS LENGTH`
+fn read(d: Bench, s: &[u8], memory: &mut [u8]) -> Bench {
+    let r = read_request(s);
+    let Request::Read { address, length } = r else {
+        return d.refused(b"read ADDRESS LENGTH");
+    };
+    let done = request(d, r, command(d, 0x08, length, true), 0, 0, memory);
     done.bench
 }
 
-// Bytes that end the line, put at the start of the image: how many, more than it has for wrong ones.
-fn loaded(s: &[u8], image: &mut [u8]) -> usize {
-    if 0 < after_data(s).len() {
-        return WRONG;
+// The address in front of a write's data, if they end the line.
+fn write_address(s: &[u8]) -> Parsed {
+    if 0 < after_data(rest(s)).len() {
+        return Parsed::Wrong;
     }
-    let got = data(s, image);
-    match got {
-        Parsed::Value(n) => n,
-        Parsed::Wrong => WRONG,
-    }
-}
-
-// `write ADDRESS DATA`
-fn write(d: Bench, s: &[u8], image: &mut [u8], flash: &mut [u8], history: &mut [u8]) -> Bench {
-    let place = number(first(s), 100000);
-    let n = loaded(rest(s), image);
-    let Parsed::Value(address) = place else {
-        return write_wrong(d);
-    };
-    if image.len() < n {
-        return write_wrong(d);
-    }
-    write_at(d, address, &image[0..n], flash, history)
+    number(first(s), 100000)
 }
 
 fn write_wrong(d: Bench) -> Bench {
     d.refused(b"write ADDRESS and then HEX, fill BYTE COUNT or file NAME, and nothing more")
 }
 
-fn read_at(d: Bench, address: usize, length: usize, flash: &mut [u8], history: &mut [u8]) -> Bench {
-    let asked = command(d, 0x08, length, true);
-    let r = Request::Read { address, length };
-    let done = request(d, r, asked, b"", flash, history);
+// `write ADDRESS DATA`
+fn write(d: Bench, s: &[u8], memory: &mut [u8]) -> Bench {
+    let place = write_address(s);
+    let Parsed::Value(address) = place else {
+        return write_wrong(d);
+    };
+    let got = load_data(rest(s), memory);
+    let Parsed::Value(n) = got else {
+        return write_wrong(d);
+    };
+    let asked = command(d, 0x06, 0, true);
+    let done = request(d, Request::Write { address }, asked, 0, n, memory);
     done.bench
-}
-
-// `read ADDRESS LENGTH`
-fn read(d: Bench, s: &[u8], flash: &mut [u8], history: &mut [u8]) -> Bench {
-    let place = number(first(s), 100000);
-    let count = number(rest(s), 100000);
-    if let Parsed::Value(address) = place {
-        if let Parsed::Value(length) = count {
-            return read_at(d, address, length, flash, history);
-        }
-    }
-    d.refused(b"read ADDRESS LENGTH")
 }
 
 // The command of a raw frame: behind the address. A read's length stands behind its flash address.
@@ -141,71 +134,55 @@ fn beside(d: Bench) -> usize {
     }
 }
 
-// Address and bytes, as they are.
-fn send_raw(d: Bench, bytes: &mut [u8], flash: &mut [u8], history: &mut [u8]) -> Bench {
-    let asked = raw_asked(d, bytes);
+// `send BYTES`: address and frame, as they are.
+fn raw(d: Bench, s: &[u8], memory: &mut [u8]) -> Bench {
+    let mut bytes = [0u8; RAW];
+    let got = hex(s, &mut bytes);
+    let Parsed::Value(n) = got else {
+        return d.refused(b"send ADDRESS BYTES, all in hexadecimal digits, as: send 08 00f3");
+    };
     let start = beside(d);
-    if bytes.len() < start {
+    if n < 1 {
+        return d.refused(b"send ADDRESS BYTES: at least the address");
+    }
+    if RAW < n {
         return d;
     }
-    let done = send(d, asked, &mut bytes[start..], b"", flash, history);
+    if n < start {
+        return d;
+    }
+    let done = send(d, raw_asked(d, &bytes), &mut bytes[start..n], memory);
     done.bench
 }
 
-// The bytes of a frame, with its address: how many, more than the image has for wrong ones.
-fn frame_bytes(s: &[u8], image: &mut [u8]) -> usize {
-    if s.len() == 0 {
-        return WRONG;
-    }
-    let got = hex(s, image);
-    match got {
-        Parsed::Value(n) => n,
-        Parsed::Wrong => WRONG,
-    }
-}
-
-// `send BYTES`
-fn raw(d: Bench, s: &[u8], image: &mut [u8], flash: &mut [u8], history: &mut [u8]) -> Bench {
-    let n = frame_bytes(s, image);
-    if image.len() < n {
-        return d.refused(b"send ADDRESS BYTES, all in hexadecimal digits, as: send 08 00f3");
-    }
-    send_raw(d, &mut image[0..n], flash, history)
-}
-
-fn i2c_read_at(d: Bench, at: usize, flash: &[u8]) -> Bench {
+fn i2c_read_at(d: Bench, at: usize, memory: &[u8]) -> Bench {
     let asked = command(d, d.code, d.asked, true);
-    let to = (at % 256) as u8;
-    read_back(d.profile, d.state, asked, to, d.reply_damage, flash, b"");
-    d.without_reply_damage()
+    let r = read_reply(d, true, (at % 256) as u8, memory);
+    let n = r.len;
+    let result = decoded(asked, r);
+    tell_waiting_after(result.status == 0, waiting(d));
+    d.after_reply(n)
 }
 
 // `i2c-read`, `i2c-read ADDRESS`
-fn i2c_read(d: Bench, s: &[u8], flash: &[u8]) -> Bench {
+fn i2c_read(d: Bench, s: &[u8], memory: &[u8]) -> Bench {
     if s.len() == 0 {
-        return i2c_read_at(d, d.to, flash);
+        return i2c_read_at(d, d.to, memory);
     }
     let given = number(s, 255);
     let Parsed::Value(at) = given else {
         return d.refused(b"i2c-read, or i2c-read ADDRESS");
     };
-    i2c_read_at(d, at, flash)
+    i2c_read_at(d, at, memory)
 }
 
 // What follows `write`, `read`, `set-address`, `send` or `i2c-read`.
-pub fn run_line(
-    d: Bench,
-    word: CallWord,
-    s: &[u8],
-    image: &mut [u8],
-    flash: &mut [u8],
-    history: &mut [u8],
-) -> Bench {
+pub fn run_line(d: Bench, word: CallWord, s: &[u8], memory: &mut [u8]) -> Bench {
     match word {
-        CallWord::Write => write(d, s, image, flash, history),
-        CallWord::Read => read(d, s, flash, history),
-        CallWord::SetAddress => set_address(d, s, flash, history),
-        CallWord::Send => raw(d, s, image, flash, history),
-        CallWord::I2cRead => i2c_read(d, s, flash),
+        CallWord::Write => write(d, s, memory),
+        CallWord::Read => read(d, s, memory),
+        CallWord::SetAddress => set_address(d, s, memory),
+        CallWord::Send => raw(d, s, memory),
+        CallWord::I2cRead => i2c_read(d, s, memory),
     }
 }

@@ -1,21 +1,27 @@
-// `upload`: a whole image in frames, finalize, and read back.
+// `upload`: the image's length held against S, all frames, finalize, and the whole image read back; and how that ended.
+use alarms::uploads::UploadEnd;
 use bench_exchange::bench::Bench;
-use bench_exchange::frames::Exchange;
+use bench_exchange::memory::keep_earlier;
+use bench_exchange::memory::load_data;
+use bench_exchange::pages::tell_uploaded;
 use bench_exchange::requests::command;
+use bench_exchange::requests::is_image;
 use bench_exchange::requests::request;
+use bench_exchange::requests::upload_end;
+use bench_exchange::requests::waiting;
 use bench_script::fields::Parsed;
 use bench_script::fields::first;
 use bench_script::fields::is;
 use bench_script::fields::number;
 use bench_script::fields::rest;
 use bench_script::image::after_data;
-use bench_script::image::data;
 use bench_script::output::min;
 use bench_script::output::say;
 use bench_script::output::say_count;
-use bench_script::output::say_with_number;
-use bench_wording::changes::warn_waiting;
-use bench_wording::reply::tell_count;
+use bench_script::output::tell;
+use bench_script::output::tell_all;
+use bench_wording::alarm::tell_broken_off;
+use bench_wording::alarm::tell_waiting;
 use rules::kinds::Bus;
 use rules::requests::Request;
 
@@ -25,25 +31,24 @@ struct Sent {
     fine: bool,
 }
 
-// Whether going from one place to another passes an eighth of the whole.
-fn passes_eighth(from: usize, to: usize, all: usize) -> bool {
-    let step = all / 8 + 1;
-    from / step != to / step
-}
-
-// A line for each frame of a short upload, and for each eighth of a long one.
-fn is_told(from: usize, to: usize, all: usize, piece: usize) -> bool {
-    all / 16 < piece || to == all || passes_eighth(from, to, all)
-}
-
-fn tell_progress(to: usize, all: usize, count: usize, held: usize) {
-    say_with_number(b"  ", to, b" of ");
-    say_count(all, b"byte");
-    say(b" accepted, ");
-    say_count(count, b"page");
-    say(b" erased, ");
-    say_count(held, b"byte");
-    say(b" waiting\n");
+// The board tells its S, and the image fits: nothing is written before that.
+fn begin(d: Bench, n: usize, memory: &mut [u8]) -> Sent {
+    let asked = command(d, 0x03, 0, false);
+    let done = request(d, Request::Plain(0x03), asked, 0, 0, memory);
+    let bench = done.bench;
+    if done.result.status != 0 {
+        say(b"  ** upload not begun: the board did not tell its S, and nothing was written **\n");
+        return Sent { bench, fine: false };
+    }
+    let size = done.result.value;
+    if size < n {
+        tell_all(
+            b"  ** upload not begun: the image has % bytes, the working flash %, and nothing was written **\n",
+            [n, size, 0, 0, 0],
+        );
+        return Sent { bench, fine: false };
+    }
+    Sent { bench, fine: true }
 }
 
 // An upload of at most two frames is said in full.
@@ -54,53 +59,31 @@ fn is_short(all: usize, piece: usize) -> bool {
     all <= piece * 2
 }
 
-// Whether a frame was accepted, and where the upload stopped if not.
-fn is_accepted(status: usize, at: usize) -> bool {
-    if status == 0 {
-        return true;
-    }
-    say_with_number(b"  the upload stopped at address ", at, b"\n");
-    false
+// A line for each frame of a short upload, and for each eighth of a long one.
+fn is_told(from: usize, to: usize, all: usize, piece: usize) -> bool {
+    let step = all / 8 + 1;
+    all / 16 < piece || to == all || from / step != to / step
 }
 
-fn accepted(done: Exchange, at: usize) -> Sent {
-    let bench = done.bench;
-    let fine = is_accepted(done.result.status, at);
-    Sent { bench, fine }
-}
-
-// One frame of the upload.
-fn send_piece(
-    d: Bench,
-    verbose: bool,
-    at: usize,
-    piece: &[u8],
-    flash: &mut [u8],
-    history: &mut [u8],
-) -> Sent {
-    let asked = command(d, 0x06, 0, verbose);
-    let done = request(
-        d,
-        Request::Write { address: at },
-        asked,
-        piece,
-        flash,
-        history,
-    );
-    accepted(done, at)
+fn tell_progress(to: usize, all: usize, count: usize, held: usize) {
+    tell(b"  % of ", to);
+    say_count(all, b"byte");
+    say(b" accepted, ");
+    say_count(count, b"page");
+    say(b" erased, ");
+    say_count(held, b"byte");
+    say(b" waiting\n");
 }
 
 // How far an accepted frame has brought the upload.
 fn progress(s: Sent, from: usize, to: usize, all: usize, piece: usize) {
-    if s.fine {
-        if is_told(from, to, all, piece) {
-            let d = s.bench;
-            tell_progress(to, all, d.count(), d.held());
-        }
+    if s.fine && is_told(from, to, all, piece) {
+        let u = s.bench.state.upload;
+        tell_progress(to, all, u.count, u.held);
     }
 }
 
-// The end of the piece that begins at a place of an image.
+// The end of the piece that begins at a place.
 fn piece_end(at: usize, piece: usize, all: usize) -> usize {
     if all <= at {
         return all;
@@ -108,31 +91,35 @@ fn piece_end(at: usize, piece: usize, all: usize) -> usize {
     at + min(piece, all - at)
 }
 
-// A part of an image; empty where there is none.
-fn part<'a>(s: &'a [u8], from: usize, to: usize) -> &'a [u8] {
-    if s.len() < to || to < from {
-        return &s[0..0];
+// One frame of the upload.
+fn send_piece(d: Bench, verbose: bool, at: usize, end: usize, memory: &mut [u8]) -> Sent {
+    let asked = command(d, 0x06, 0, verbose);
+    let done = request(d, Request::Write { address: at }, asked, at, end, memory);
+    let bench = done.bench;
+    let fine = done.result.status == 0;
+    if !fine {
+        tell(b"  the upload stopped at address %\n", at);
     }
-    &s[from..to]
+    Sent { bench, fine }
 }
 
 // All frames.
-fn send_all(d: Bench, piece: usize, all: &[u8], flash: &mut [u8], history: &mut [u8]) -> Sent {
+fn send_all(d: Bench, piece: usize, all: usize, memory: &mut [u8]) -> Sent {
     let mut s = Sent {
         bench: d,
         fine: true,
     };
-    let verbose = is_short(all.len(), piece);
+    let verbose = is_short(all, piece);
     let mut at = 0;
-    let mut turns = all.len();
+    let mut turns = all;
     while 0 < turns {
         turns -= 1;
-        if !s.fine || all.len() <= at {
+        if !s.fine || all <= at {
             return s;
         }
-        let end = piece_end(at, piece, all.len());
-        s = send_piece(s.bench, verbose, at, part(all, at, end), flash, history);
-        progress(s, at, end, all.len(), piece);
+        let end = piece_end(at, piece, all);
+        s = send_piece(s.bench, verbose, at, end, memory);
+        progress(s, at, end, all, piece);
         at = end;
     }
     s
@@ -149,108 +136,114 @@ fn longest_read(d: Bench) -> usize {
     if longest <= head { 1 } else { longest - head }
 }
 
-// Whether a read gave what was sent.
-fn is_right(status: usize, at: usize) -> bool {
-    if status == 0 {
-        return true;
-    }
-    say_with_number(
-        b"  ** read back: the bytes from address ",
-        at,
-        b" on are not as sent **\n",
-    );
-    false
-}
-
-fn right(done: Exchange, at: usize) -> Sent {
-    let bench = done.bench;
-    let fine = is_right(done.result.status, at);
-    Sent { bench, fine }
-}
-
 // One read, compared with what was sent.
-fn read_piece(d: Bench, at: usize, piece: &[u8], flash: &mut [u8], history: &mut [u8]) -> Sent {
-    let length = piece.len();
+fn read_piece(d: Bench, at: usize, end: usize, memory: &mut [u8]) -> Sent {
+    let length = if end < at { 0 } else { end - at };
     let asked = command(d, 0x08, length, false);
     let r = Request::Read {
         address: at,
         length,
     };
-    let done = request(d, r, asked, piece, flash, history);
-    right(done, at)
+    let done = request(d, r, asked, 0, 0, memory);
+    let bench = done.bench;
+    let fine = done.result.status == 0 && is_image(done, at, end, memory);
+    if !fine {
+        tell(
+            b"  ** read back: the bytes from address % on are not read as sent **\n",
+            at,
+        );
+    }
+    Sent { bench, fine }
 }
 
 // The whole image, read back.
-fn read_all(d: Bench, all: &[u8], flash: &mut [u8], history: &mut [u8]) -> Sent {
+fn read_all(d: Bench, all: usize, memory: &mut [u8]) -> Sent {
     let most = longest_read(d);
     let mut s = Sent {
         bench: d,
         fine: true,
     };
     let mut at = 0;
-    let mut turns = all.len();
+    let mut turns = all;
     while 0 < turns {
         turns -= 1;
-        if !s.fine || all.len() <= at {
+        if !s.fine || all <= at {
             return s;
         }
-        let end = piece_end(at, most, all.len());
-        s = read_piece(s.bench, at, part(all, at, end), flash, history);
+        let end = piece_end(at, most, all);
+        s = read_piece(s.bench, at, end, memory);
         at = end;
     }
     s
 }
 
-fn tell_done(fine: bool, n: usize, count: usize) {
-    if !fine {
-        return;
+// Finalize, and read back.
+fn finish(d: Bench, all: usize, memory: &mut [u8]) -> Sent {
+    say(b"  finalize\n");
+    let asked = command(d, 0x07, 0, true);
+    let done = request(d, Request::Plain(0x07), asked, 0, 0, memory);
+    let bench = done.bench;
+    if done.result.status != 0 {
+        return Sent { bench, fine: false };
     }
+    read_all(bench, all, memory)
+}
+
+// What follows the frames, if each was accepted.
+fn finish_sent(s: Sent, short: bool, all: usize, memory: &mut [u8]) -> Sent {
+    let d = s.bench;
+    if !s.fine {
+        return s;
+    }
+    if !short {
+        tell_waiting(waiting(d));
+    }
+    finish(d, all, memory)
+}
+
+fn tell_done(n: usize, count: usize) {
     say(b"  read back: ");
     say_count(n, b"byte");
     say(b" as sent\n  upload done: ");
     say_count(count, b"page");
     say(b" erased\n");
-    tell_count(n, count);
 }
 
-// Finalize.
-fn finalize(d: Bench, flash: &mut [u8], history: &mut [u8]) -> Exchange {
-    say(b"  finalize\n");
-    let asked = command(d, 0x07, 0, true);
-    request(d, Request::Plain(0x07), asked, b"", flash, history)
-}
-
-// Finalize, and read back.
-fn finish(d: Bench, all: &[u8], flash: &mut [u8], history: &mut [u8]) -> Bench {
-    let done = finalize(d, flash, history);
-    if done.result.status != 0 {
-        return done.bench;
+// How the upload ended: done, or broken off with what the flash holds then.
+fn end_upload(s: Sent, n: usize, memory: &[u8]) -> Bench {
+    let d = s.bench;
+    if s.fine {
+        tell_done(n, d.state.upload.count);
+        return d;
     }
-    let s = read_all(done.bench, all, flash, history);
-    tell_done(s.fine, all.len(), done.result.count);
-    s.bench
-}
-
-// The bytes that wait behind a long upload.
-fn warn_long(short: bool, held: usize) {
-    if !short {
-        warn_waiting(held);
+    let end = upload_end(d, n, memory);
+    tell_broken_off(end);
+    if let UploadEnd::Partly = end {
+        tell_uploaded(d.profile, memory);
     }
+    tell_waiting(waiting(d));
+    d.failing()
 }
 
-// What follows the frames, if each was accepted.
-fn finish_sent(s: Sent, short: bool, all: &[u8], flash: &mut [u8], history: &mut [u8]) -> Bench {
-    let after = s.bench;
-    if !s.fine {
-        return after;
+// All frames, and the flash before the first of them.
+fn send_image(d: Bench, piece: usize, n: usize, memory: &mut [u8]) -> Sent {
+    keep_earlier(memory);
+    send_all(d, piece, n, memory)
+}
+
+fn upload_begun(d: Bench, piece: usize, n: usize, memory: &mut [u8]) -> Bench {
+    let s = send_image(d, piece, n, memory);
+    let done = finish_sent(s, is_short(n, piece), n, memory);
+    end_upload(done, n, memory)
+}
+
+fn upload(d: Bench, piece: usize, n: usize, memory: &mut [u8]) -> Bench {
+    let begun = begin(d, n, memory);
+    let ready = begun.bench;
+    if !begun.fine {
+        return ready.failing();
     }
-    warn_long(short, after.held());
-    finish(after, all, flash, history)
-}
-
-fn upload(d: Bench, piece: usize, all: &[u8], flash: &mut [u8], history: &mut [u8]) -> Bench {
-    let s = send_all(d, piece, all, flash, history);
-    finish_sent(s, is_short(all.len(), piece), all, flash, history)
+    upload_begun(ready, piece, n, memory)
 }
 
 // The length of the pieces.
@@ -261,15 +254,6 @@ fn pieces(s: &[u8]) -> Parsed {
     Parsed::Wrong
 }
 
-// The bytes to upload, at the start of the image: how many, more than it has for wrong ones.
-fn loaded(s: &[u8], image: &mut [u8]) -> usize {
-    let got = data(s, image);
-    match got {
-        Parsed::Value(n) => n,
-        Parsed::Wrong => 10000000,
-    }
-}
-
 fn wrong(d: Bench) -> Bench {
     d.refused(
         b"upload and then HEX, fill BYTE COUNT or file NAME, then frames N: at least one byte, N of them in a frame, 1 to 252",
@@ -277,23 +261,17 @@ fn wrong(d: Bench) -> Bench {
 }
 
 // What follows `upload`: `DATA frames N`
-pub fn run_line(
-    d: Bench,
-    s: &[u8],
-    image: &mut [u8],
-    flash: &mut [u8],
-    history: &mut [u8],
-) -> Bench {
+pub fn run_line(d: Bench, s: &[u8], memory: &mut [u8]) -> Bench {
     let length = pieces(after_data(s));
     let Parsed::Value(piece) = length else {
         return wrong(d);
     };
-    if piece == 0 {
+    let got = load_data(s, memory);
+    let Parsed::Value(n) = got else {
+        return wrong(d);
+    };
+    if piece == 0 || n == 0 {
         return wrong(d);
     }
-    let n = loaded(s, image);
-    if n == 0 || image.len() < n {
-        return wrong(d);
-    }
-    upload(d, piece, &image[0..n], flash, history)
+    upload(d, piece, n, memory)
 }

@@ -1,6 +1,7 @@
 // A line's fields, separated by blanks: words, numbers and bytes.
 use crate::output::as_usize;
 use crate::output::find;
+use crate::output::min;
 ghost use Prim.Native.Nat.{_≤_};
 ghost use lib.ListN.{length};
 
@@ -54,14 +55,23 @@ pub fn is(word: &[u8], name: &[u8]) -> bool {
     flash::matches(word, name)
 }
 
-// A whole field as a decimal number of at most `most`.
-pub fn number(s: &[u8], most: u32) -> Parsed {
-    let f = text::read::read_number(s, 0, most);
-    if text::read::is_read(s, f.next) {
-        Parsed::Value(f.value)
-    } else {
-        Parsed::Wrong
+// A whole field as a decimal number of at most `most`, which is below a million.
+pub fn number(s: &[u8], most: usize) -> Parsed {
+    let limit = min(most, 1000000);
+    let mut value = 0;
+    let mut i = 0;
+    while i < s.len() {
+        let d = digit(s[i]);
+        if 9 < d {
+            return Parsed::Wrong;
+        }
+        value = value * 10 + d as usize;
+        if limit < value {
+            return Parsed::Wrong;
+        }
+        i += 1;
     }
+    if i == 0 { Parsed::Wrong } else { Parsed::Value(value) }
 }
 
 // The value of a hexadecimal digit; 16 for any other byte.

@@ -11,11 +11,31 @@ pub fn say_number(n: usize) {
     io::print_decimal(STDOUT_FILENO, n as u64);
 }
 
-// Says a number with the text before it and the text after it.
-pub fn say_with_number(before: &[u8], n: usize, after: &[u8]) {
-    say(before);
-    say_number(n);
-    say(after);
+// The number at a place; 0 where there is none.
+fn number_at(numbers: [usize; 5], k: usize) -> usize {
+    if k < 5 { numbers[k] } else { 0 }
+}
+
+// Says a text with numbers in it: each `%` stands for the next one.
+pub fn tell_all(text: &[u8], numbers: [usize; 5]) {
+    let mut k = 0;
+    let mut from = 0;
+    let mut i = 0;
+    while i < text.len() {
+        if text[i] == b'%' {
+            say(&text[from..i]);
+            say_number(number_at(numbers, k));
+            k = increment(k);
+            from = i + 1;
+        }
+        i += 1;
+    }
+    say(&text[from..]);
+}
+
+// Says a text with one number in it.
+pub fn tell(text: &[u8], n: usize) {
+    tell_all(text, [n, 0, 0, 0, 0]);
 }
 
 // Says how many things there are: `1 page`, `2 pages`.
@@ -98,17 +118,6 @@ pub fn say_bytes(s: &[u8]) {
         say_byte(s[i]);
         i += 1;
     }
-}
-
-// Says that a number changed, if it did.
-pub fn say_change(name: &[u8], from: usize, to: usize) {
-    if from == to {
-        return;
-    }
-    say(b"  changed: ");
-    say(name);
-    say_with_number(b" ", from, b" -> ");
-    say_with_number(b"", to, b"\n");
 }
 
 // One more, up to a number that no script reaches.

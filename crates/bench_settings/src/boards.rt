@@ -2,7 +2,8 @@
 use crate::shown::show_profile;
 use bench_exchange::bench::Bench;
 use bench_exchange::bench::default_profile;
-use bench_exchange::pages::restart_history;
+use bench_exchange::memory::restart_map;
+use bench_exchange::requests::lost_with_board;
 use bench_script::fields::Parsed;
 use bench_script::fields::first;
 use bench_script::fields::hex;
@@ -10,6 +11,7 @@ use bench_script::fields::is;
 use bench_script::fields::number;
 use bench_script::fields::rest;
 use bench_script::fields::second;
+use bench_wording::alarm::tell_lost;
 use profile::Profile;
 use rules::kinds::Bus;
 
@@ -180,15 +182,18 @@ fn on_bus(s: &[u8]) -> Described {
 }
 
 // `board BUS NAME VALUE ..`
-pub(crate) fn set_board(d: Bench, s: &[u8], flash: &[u8], history: &mut [u8]) -> Bench {
+pub(crate) fn set_board(d: Bench, s: &[u8], memory: &mut [u8]) -> Bench {
     let got = on_bus(s);
     if !got.fine {
         return d.refused(
             b"board i2c or board rs485, then any of M n, S n, O n, type n, compatible n, actual n, bootloader n, serial HEX",
         );
     }
-    restart_history(flash, history);
     let p = got.profile;
+    let fresh = d.with_board(p);
+    let lost = lost_with_board(d, fresh, memory);
     show_profile(p);
-    d.with_board(p)
+    tell_lost(lost);
+    restart_map(memory);
+    fresh.losing(lost)
 }

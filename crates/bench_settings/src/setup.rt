@@ -1,7 +1,9 @@
 // Lines that set the bench up: the board, the flash, where the master sends to, and damage.
 use crate::boards;
 use bench_exchange::bench::Bench;
-use bench_exchange::pages::restart_history;
+use bench_exchange::bench::Damage;
+use bench_exchange::memory;
+use bench_exchange::requests::waiting;
 use bench_script::fields::Parsed;
 use bench_script::fields::first;
 use bench_script::fields::hex_byte;
@@ -9,51 +11,40 @@ use bench_script::fields::is;
 use bench_script::fields::number;
 use bench_script::fields::rest;
 use bench_script::image::DataKind;
-use bench_script::image::copy;
 use bench_script::image::data_kind;
-use bench_script::image::file;
-use bench_script::image::fill;
-use bench_script::output::say_with_number;
+use bench_script::output::tell;
+use bench_script::output::tell_all;
+use bench_wording::alarm::tell_waiting;
 use bench_words::SetupWord;
 
 // `flash fill BYTE`
-fn flash_fill(d: Bench, value: &[u8], flash: &mut [u8], history: &mut [u8]) -> Bench {
+fn flash_fill(d: Bench, value: &[u8], memory: &mut [u8]) -> Bench {
     let byte = hex_byte(value);
     let Parsed::Value(b) = byte else {
         return d.refused(b"flash fill BYTE: the byte in two hexadecimal digits, as ff");
     };
-    let all = flash.len();
-    fill(flash, all, (b % 256) as u8);
-    restart_history(flash, history);
+    memory::fill_flash(memory, (b % 256) as u8);
+    tell_waiting(waiting(d));
     d
 }
 
 // `flash file NAME`; bytes behind the file's stay.
-fn flash_file(
-    d: Bench,
-    name: &[u8],
-    image: &mut [u8],
-    flash: &mut [u8],
-    history: &mut [u8],
-) -> Bench {
-    let got = file(name, image);
+fn flash_file(d: Bench, name: &[u8], memory: &mut [u8]) -> Bench {
+    let got = memory::load_file(name, memory);
     let Parsed::Value(n) = got else {
-        return d.refused(b"flash file NAME: a file that can be read, shorter than 131072 bytes");
+        return d.refused(b"flash file NAME: a file that can be read, at most 131072 bytes");
     };
-    if image.len() < n {
-        return d;
-    }
-    copy(&image[0..n], flash);
-    restart_history(flash, history);
-    say_with_number(b"  bytes of flash as in the file: ", n, b"\n");
+    memory::load_flash(memory, n);
+    tell(b"  bytes of flash as in the file: %\n", n);
+    tell_waiting(waiting(d));
     d
 }
 
-fn set_flash(d: Bench, s: &[u8], image: &mut [u8], flash: &mut [u8], history: &mut [u8]) -> Bench {
+fn set_flash(d: Bench, s: &[u8], memory: &mut [u8]) -> Bench {
     let kind = data_kind(first(s));
     match kind {
-        DataKind::Fill => flash_fill(d, rest(s), flash, history),
-        DataKind::File => flash_file(d, rest(s), image, flash, history),
+        DataKind::Fill => flash_fill(d, rest(s), memory),
+        DataKind::File => flash_file(d, rest(s), memory),
         DataKind::Digits => d.refused(b"flash fill BYTE, or flash file NAME"),
     }
 }
@@ -64,51 +55,56 @@ fn set_destination(d: Bench, s: &[u8]) -> Bench {
     let Parsed::Value(a) = address else {
         return d.refused(b"to ADDRESS: a number to 255");
     };
-    say_with_number(b"  the master sends to ", a, b"\n");
+    tell(b"  the master sends to %\n", a);
     d.sending_to(a)
 }
 
-// `damage byte N`, `damage reply N`
-fn damage(d: Bench, what: &[u8], n: usize) -> Bench {
-    if is(what, b"byte") {
-        say_with_number(
-            b"  byte ",
-            n,
-            b" of the next frame will be damaged on its way\n",
-        );
-        return d.with_frame_damage(n);
+// What follows `damage byte` or `damage reply`: `N`, or `N after K`.
+fn read_damage(s: &[u8]) -> Damage {
+    let count = number(first(s), 300);
+    let Parsed::Value(byte) = count else {
+        return Damage::none();
+    };
+    let more = rest(s);
+    if more.len() == 0 {
+        return Damage { byte, after: 0 };
     }
-    if is(what, b"reply") {
-        say_with_number(
-            b"  byte ",
-            n,
-            b" of the next reply will be damaged on its way\n",
-        );
-        return d.with_reply_damage(n);
+    if !is(first(more), b"after") {
+        return Damage::none();
     }
-    d.refused(b"damage byte N, or damage reply N: the first byte is 1")
+    let passing = number(rest(more), 10000);
+    let Parsed::Value(after) = passing else {
+        return Damage::none();
+    };
+    Damage { byte, after }
 }
 
+// `damage byte N`, `damage reply N`
 fn set_damage(d: Bench, s: &[u8]) -> Bench {
-    let count = number(rest(s), 300);
-    let Parsed::Value(n) = count else {
-        return d.refused(b"damage byte N, or damage reply N: the first byte is 1");
-    };
-    damage(d, first(s), n)
+    let what = first(s);
+    let hit = read_damage(rest(s));
+    if 0 < hit.byte && is(what, b"byte") {
+        tell_all(
+            b"  byte % of a frame will be damaged on its way; frames that pass before that: %\n",
+            [hit.byte, hit.after, 0, 0, 0],
+        );
+        return d.with_frame_damage(hit);
+    }
+    if 0 < hit.byte && is(what, b"reply") {
+        tell_all(
+            b"  byte % of a reply will be damaged on its way; replies that pass before that: %\n",
+            [hit.byte, hit.after, 0, 0, 0],
+        );
+        return d.with_reply_damage(hit);
+    }
+    d.refused(b"damage byte N or damage reply N, and then perhaps after K: the first byte is 1, and K frames or replies pass first")
 }
 
 // What follows `board`, `flash`, `to` or `damage`.
-pub fn run_line(
-    d: Bench,
-    word: SetupWord,
-    s: &[u8],
-    image: &mut [u8],
-    flash: &mut [u8],
-    history: &mut [u8],
-) -> Bench {
+pub fn run_line(d: Bench, word: SetupWord, s: &[u8], memory: &mut [u8]) -> Bench {
     match word {
-        SetupWord::Board => boards::set_board(d, s, flash, history),
-        SetupWord::Flash => set_flash(d, s, image, flash, history),
+        SetupWord::Board => boards::set_board(d, s, memory),
+        SetupWord::Flash => set_flash(d, s, memory),
         SetupWord::To => set_destination(d, s),
         SetupWord::Damage => set_damage(d, s),
     }

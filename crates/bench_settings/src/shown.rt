@@ -1,16 +1,20 @@
 // Lines that show: `state`, `map`, `help`; and what is said when the script ends.
 use bench_exchange::bench::Bench;
-use bench_exchange::pages::PAGE;
+use bench_exchange::memory::PAGES;
 use bench_exchange::pages::times;
+use bench_exchange::requests::waiting;
 use bench_script::output::as_usize;
 use bench_script::output::min;
 use bench_script::output::say;
 use bench_script::output::say_address;
-use bench_script::output::say_with_number;
+use bench_script::output::tell;
+use bench_script::output::tell_all;
+use bench_wording::alarm::tell_waiting;
 use bench_words::ShowWord;
 use profile::Profile;
 use rules::kinds::Address;
 use rules::kinds::Bus;
+use state::State;
 
 fn tell_bus(bus: Bus) {
     match bus {
@@ -22,16 +26,16 @@ fn tell_bus(bus: Bus) {
 pub(crate) fn show_profile(p: Profile) {
     let bus = p.bus;
     tell_bus(bus);
-    say_with_number(b"M ", p.longest, b"");
-    say_with_number(b", S ", p.size, b"");
-    say_with_number(b", O ", p.offset, b"");
-    say_with_number(b", type ", as_usize(p.hardware), b"\n");
+    tell_all(
+        b"M %, S %, O %, type %\n",
+        [p.longest, p.size, p.offset, as_usize(p.hardware), 0],
+    );
 }
 
 fn tell_address(own: Address) {
     match own {
         Address::DefaultRange => say(b"  the board listens to 8 to 15, the default range"),
-        Address::Own(a) => say_with_number(b"  the board listens to ", as_usize(a), b""),
+        Address::Own(a) => tell(b"  the board listens to %", as_usize(a)),
     }
 }
 
@@ -43,19 +47,15 @@ fn tell_running(running: bool) {
     }
 }
 
-fn tell_upload(next: usize, held: usize, count: usize, last: usize) {
-    say_with_number(b"  next address ", next, b", waiting bytes ");
-    say_with_number(b"", held, b", erase count ");
-    say_with_number(b"", count, b", last reply ");
-    say_with_number(b"", last, b" bytes\n");
-}
-
 fn show_state(d: Bench) {
     let s = d.state;
     let own = s.address;
     tell_address(own);
     tell_running(s.running);
-    tell_upload(d.next(), d.held(), d.count(), s.last.len);
+    tell_all(
+        b"  next address %, waiting bytes %, erase count %, last reply % bytes\n",
+        [s.upload.next, s.upload.held, s.upload.count, s.last.len, 0],
+    );
 }
 
 // The mark of a page that was rewritten n times.
@@ -67,16 +67,20 @@ fn times_mark(n: u8) -> u8 {
 }
 
 // The mark of a page.
-fn mark(page: usize, waiting: usize, history: &[u8]) -> u8 {
+fn mark(page: usize, waiting: usize, memory: &[u8]) -> u8 {
     if page == waiting {
         return b'w';
     }
-    times_mark(times(page, history))
+    times_mark(times(page, memory))
 }
 
 // The page with waiting bytes, if there is one.
 fn waiting_page(held: usize, next: usize) -> usize {
-    if held == 0 { 65536 } else { next / PAGE }
+    if held == 0 {
+        65536
+    } else {
+        next / State::PAGE
+    }
 }
 
 // What stands before a page's mark: a new line with the address every 32 pages.
@@ -88,33 +92,33 @@ fn margin(page: usize) {
         say(b"\n");
     }
     say(b"  ");
-    say_address(min(page, 1023) * PAGE);
+    say_address(min(page, 1023) * State::PAGE);
     say(b"  ");
 }
 
-fn show_page(page: usize, waiting: usize, history: &[u8]) {
+fn show_page(page: usize, waiting: usize, memory: &[u8]) {
     margin(page);
-    say(&[mark(page, waiting, history)]);
+    say(&[mark(page, waiting, memory)]);
 }
 
-fn show_pages(pages: usize, waiting: usize, history: &[u8]) {
+fn show_pages(pages: usize, waiting: usize, memory: &[u8]) {
     let mut page = 0;
     while page < pages {
-        show_page(page, waiting, history);
+        show_page(page, waiting, memory);
         page += 1;
     }
 }
 
-fn show_map(d: Bench, history: &[u8]) {
-    say_with_number(
-        b"  a mark for each page of ",
-        PAGE,
-        b" bytes: . untouched, 1 to 9 rewritten so often, + more often, w bytes wait\n",
+fn show_map(d: Bench, memory: &[u8]) {
+    tell(
+        b"  a mark for each page of % bytes: . untouched, 1 to 9 rewritten so often, + more often, w bytes wait\n",
+        State::PAGE,
     );
+    let u = d.state.upload;
     show_pages(
-        min(d.profile.size / PAGE, 1023),
-        waiting_page(d.held(), d.next()),
-        history,
+        min(d.profile.size / State::PAGE, PAGES),
+        waiting_page(u.held, u.next),
+        memory,
     );
     say(b"\n");
 }
@@ -132,42 +136,61 @@ fn show_help() {
   upload file NAME frames N | upload fill BYTE COUNT frames N | upload HEX frames N
   send ADDRESS BYTES                             a frame as it is, all in hexadecimal: send 08 00f3
   i2c-read [ADDRESS]                             read the last reply once more
-  damage byte N | damage reply N                 of the next frame, of the next reply
+  damage byte N | damage reply N  [after K]      of the next frame, of the next reply, or after K of them
   state | map | say TEXT | help | # a comment
 ",
     );
 }
 
 // `state`, `map` or `help`.
-pub fn run_line(d: Bench, word: ShowWord, history: &[u8]) {
+pub fn run_line(d: Bench, word: ShowWord, memory: &[u8]) {
     match word {
         ShowWord::State => show_state(d),
-        ShowWord::Map => show_map(d, history),
+        ShowWord::Map => show_map(d, memory),
         ShowWord::Help => show_help(),
     }
 }
 
-fn tell_waiting(held: usize) {
-    if 0 < held {
-        say_with_number(
-            b"** the script ends: ",
-            held,
-            b" bytes still wait in the board and are not in flash **\n",
-        );
+fn tell_still_waiting(n: usize) {
+    if 0 < n {
+        say(b"the script ends\n");
+        tell_waiting(n);
+    }
+}
+
+// How often something happened that must not be missed.
+fn tell_times(text: &[u8], n: usize) {
+    if 0 < n {
+        tell(text, n);
     }
 }
 
 fn tell_wrong(wrong: usize, lines: usize) {
     if 0 < wrong {
-        say_with_number(b"** ", wrong, b" of ");
-        say_with_number(b"", lines, b" lines were not understood **\n");
+        tell_all(
+            b"** % of % lines were not understood **\n",
+            [wrong, lines, 0, 0, 0],
+        );
     }
 }
 
-// Says at the end what still waits, and how many lines were not understood.
+// Says at the end what still waits, what was lost, what failed, and how many lines were not understood.
 pub fn tell_end(d: Bench) {
-    tell_waiting(d.held());
+    tell_still_waiting(waiting(d));
+    tell_times(b"** accepted bytes were lost, times: % **\n", d.losses);
+    tell_times(b"** uploads that failed: % **\n", d.failures);
     tell_wrong(d.wrong, d.lines);
+}
+
+// The status of the whole script: 1 if a line was not understood, 3 if an upload failed, bytes were lost or still wait, else 0.
+pub fn status(d: Bench) -> usize {
+    if 0 < d.wrong {
+        return 1;
+    }
+    if 0 < d.losses || 0 < d.failures {
+        return 3;
+    }
+    if 0 < waiting(d) { 3 } else { 0 }
 }
 
 // Shows a line of the script, with what stands before it.

@@ -1,10 +1,11 @@
 // What a call changed in the board's state, in words.
 use bench_script::output::as_usize;
 use bench_script::output::say;
-use bench_script::output::say_change;
-use bench_script::output::say_with_number;
+use bench_script::output::tell;
+use bench_script::output::tell_all;
 use rules::kinds::Address;
 use state::State;
+use state::Upload;
 
 // An address for comparison: the default range is none.
 fn address_number(own: Address) -> usize {
@@ -19,7 +20,7 @@ fn tell_address(own: Address) {
         Address::DefaultRange => say(
             b"  changed: the board listens to 8 to 15, the default range\n",
         ),
-        Address::Own(a) => say_with_number(b"  changed: the board listens to ", as_usize(a), b"\n"),
+        Address::Own(a) => tell(b"  changed: the board listens to %\n", as_usize(a)),
     }
 }
 
@@ -42,55 +43,30 @@ fn tell_mode(before: State, after: State) -> bool {
     moved
 }
 
+// A number that changed; whether it did. The text has a `%` for the old one and one for the new one.
+fn tell_number(text: &[u8], from: usize, to: usize) -> bool {
+    if from == to {
+        return false;
+    }
+    tell_all(text, [from, to, 0, 0, 0]);
+    true
+}
+
 // Changes of the upload; whether there is one.
-fn tell_upload(before: State, after: State) -> bool {
-    say_change(b"next address", before.upload.next, after.upload.next);
-    say_change(b"waiting bytes", before.upload.held, after.upload.held);
-    say_change(b"erase count", before.upload.count, after.upload.count);
-    before.upload.next != after.upload.next
-        || before.upload.held != after.upload.held
-        || before.upload.count != after.upload.count
+fn tell_upload(before: Upload, after: Upload) -> bool {
+    let next = tell_number(b"  changed: next address % -> %\n", before.next, after.next);
+    let held = tell_number(b"  changed: waiting bytes % -> %\n", before.held, after.held);
+    let count = tell_number(b"  changed: erase count % -> %\n", before.count, after.count);
+    next || held || count
 }
 
 // What a call changed, beside the pages.
 pub fn tell_changes(before: State, after: State, pages: bool) {
     let mode = tell_mode(before, after);
-    let upload = tell_upload(before, after);
+    let old = before.upload;
+    let new = after.upload;
+    let upload = tell_upload(old, new);
     if !mode && !upload && !pages {
         say(b"  changed: nothing\n");
-    }
-}
-
-// Bytes that wait are not in flash.
-pub fn warn_waiting(held: usize) {
-    if held == 0 {
-        return;
-    }
-    if held == 1 {
-        say(b"  ** OK, 1 byte still waits in the board and is not in flash **\n");
-    } else {
-        say_with_number(
-            b"  ** OK, ",
-            held,
-            b" bytes still wait in the board and are not in flash **\n",
-        );
-    }
-    say(b"    do: write on, and finalize at the end\n");
-}
-
-// Bytes that wait after an OK to a write or a read; bytes that a start or a reset lost.
-pub fn warn(before: State, after: State, code: usize, status: usize) {
-    let held = after.upload.held;
-    if status == 0 {
-        match code {
-            0x06 => warn_waiting(held),
-            0x08 => warn_waiting(held),
-            _ => {}
-        }
-        return;
-    }
-    let lost = before.upload.held;
-    if held < lost {
-        say_with_number(b"  ** waiting bytes lost: ", lost, b". Finalize first **\n");
     }
 }

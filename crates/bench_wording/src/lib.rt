@@ -1,4 +1,5 @@
-// What answers, replies and changes mean, in plain words for a technician.
+// What answers, replies, changes and alarms mean, in plain words for a technician.
+pub mod alarm;
 pub mod changes;
 pub mod meaning;
 pub mod reply;

@@ -1,11 +1,13 @@
 // What a number, a status and a silence mean, and what to do about them. docs/NUMBERS.md has all of them at length.
+use alarms::calls::ignored;
 use bench_script::output::as_usize;
 use bench_script::output::say;
 use bench_script::output::say_piece;
-use bench_script::output::say_with_number;
+use bench_script::output::tell;
 use numbers::board_number;
 use numbers::decoded_number;
 use numbers::encoded_number;
+use rules::kinds::Bus;
 use rules::kinds::Outcome;
 use rules::kinds::Verdict;
 use rules::requests::Decoded;
@@ -23,10 +25,10 @@ pub fn tell_number(n: usize) {
 |  number 6, the request does not fit the lent output\n    do: lend more bytes
 |  number 7, request argument out of range, or a command that is not served
     do: look at command, addresses, type and lengths: this bus, or M, does not allow one of them
-|  number 8, the reply is too short\n    do: ask again
-|  number 9, the reply's check sum is wrong\n    do: on I2C read once more, on RS485 repeat the command
-|  number 10, the reply is from another address\n    do: ask again, and look for two boards with one address
-|  number 11, the length byte does not fit the reply\n    do: ask again
+|  number 8, the reply is too short
+|  number 9, the reply's check sum is wrong
+|  number 10, the reply is from another address
+|  number 11, the length byte does not fit the reply
 |  number 12, the status is above 5\n    do: ask again; the board may speak another protocol
 |  number 13, OK with fewer results than the command has\n    do: look at the board's version
 |  number 14, version not known\n    do: take a master that knows it
@@ -36,7 +38,7 @@ pub fn tell_number(n: usize) {
 
 // A status by its name. Piece n is status n's.
 pub fn tell_status(status: u8) {
-    say_with_number(b"  status ", as_usize(status), b", ");
+    tell(b"  status %, ", as_usize(status));
     say_piece(
         as_usize(status),
         b"OK|COMMAND_FAILED: the board could not do it
@@ -44,54 +46,91 @@ pub fn tell_status(status: u8) {
     do: ask for something else|INVALID_TRANSFER: the frame has under 2 or over M bytes
     do: send it whole, or in shorter frames|INVALID_CRC: the check sum is wrong, the board is alive
     do: send the frame again|INVALID_ARGUMENTS: not allowed for this command; nothing was done
-    do: look at addresses and lengths; a write goes to 0 or to the next address, and ends within S",
+    do: ",
     );
 }
 
-// A command that the board hears and has no reply to: set address for another type, start, or another.
+// What to do about INVALID_ARGUMENTS, by command. Piece 0 is a write's, piece 1 a read's, piece 2 any other's.
+pub fn tell_arguments_advice(code: usize) {
+    let piece = match code {
+        0x06 => 0,
+        0x08 => 1,
+        _ => 2,
+    };
+    say_piece(
+        piece,
+        b"a write goes to 0 or to the next address, and ends within S; one that was taken already is refused
+|ask for bytes within S, and for no more than a reply holds
+|look at the number of argument bytes and at their limits
+",
+    );
+}
+
+// The reason of a silence, as a piece of the texts below: set address for another type, start, or another command.
 fn silent_command(code: usize) -> usize {
     match code {
-        0x01 => 7,
+        0x01 => 6,
         0x05 => 8,
         _ => 9,
     }
 }
 
-// The reason of a silence, as a piece of the text below.
 fn reason(v: Verdict, code: usize) -> usize {
     match v {
-        Verdict::Reset => 0,
-        Verdict::Running => 1,
-        Verdict::ResetAddress => 0,
-        Verdict::Short => 2,
-        Verdict::Long => 3,
-        Verdict::WrongSum => 4,
-        Verdict::Foreign => 5,
-        Verdict::OtherGeneral => 6,
+        Verdict::Reset => 7,
+        Verdict::Running => 0,
+        Verdict::ResetAddress => 7,
+        Verdict::Short => 1,
+        Verdict::Long => 2,
+        Verdict::WrongSum => 3,
+        Verdict::Foreign => 4,
+        Verdict::OtherGeneral => 5,
         Verdict::BadTransfer => 9,
         Verdict::BadSum => 9,
         Verdict::Command => silent_command(code),
     }
 }
 
+// A silence that must not be taken for a dead board.
+fn tell_ignored(piece: usize) {
+    say_piece(
+        piece,
+        b"  ** no reply: the application runs, the board is alive **
+    do: only reset brings the bootloader back
+|  ** no reply: the frame is shorter than any request, the board is alive **
+    do: send it whole
+|  ** no reply: the frame is longer than M, the board is alive **
+    do: send shorter frames
+|  ** no reply: the check sum is wrong, the board is alive **
+    do: send the frame again; on RS485 a damaged frame is never answered
+|  ** no reply: the address is another board's, this board is alive **
+    do: see where this board listens, with: state
+|  ** no reply: all boards take only reset and reset-address, the board is alive **
+    do: send commands to the board's own address
+|  ** no reply: the hardware type is another board's, this board is alive **
+    do: send this board's type, or type 0 for any
+",
+    );
+}
+
+// A silence after something was done.
+fn tell_done(piece: usize) {
+    match piece {
+        7 => say(b"  a general call goes to all boards: none replies\n"),
+        8 => say(b"  start has no reply\n"),
+        _ => say(b"  no reply\n"),
+    }
+}
+
 // Why a call answers 1.
 pub fn tell_silence(v: Verdict, code: usize) {
     tell_number(1);
-    say_piece(
-        reason(v, code),
-        b"  a general call goes to all boards: none replies
-|  no reply: the application runs\n    do: only reset brings the bootloader back
-|  no reply: the frame is shorter than any request\n    do: send it whole
-|  no reply: the frame is longer than M\n    do: send shorter frames
-|  ** no reply: the check sum is wrong, the board is alive **
-    do: send the frame again; on RS485 a damaged frame is never answered
-|  no reply: the address is another board's\n    do: see where this board listens, with: state
-|  no reply: all boards take only reset and reset-address\n    do: send commands to the board's own address
-|  no reply: the hardware type is another board's\n    do: send this board's type, or type 0 for any
-|  start has no reply
-|  no reply
-",
-    );
+    let piece = reason(v, code);
+    if ignored(v) || piece == 6 {
+        tell_ignored(piece);
+    } else {
+        tell_done(piece);
+    }
 }
 
 // A board call that made no reply.
@@ -106,6 +145,7 @@ pub fn tell_answer(o: Outcome, v: Verdict, code: usize) {
 pub fn tell_no_read() {
     say(
         b"  number 1, nothing to send
+  ** nothing to read, and that is no dead board **
   no last reply, another board's address, a running application, or RS485
     do: send a command on I2C, and read at the board's address
 ",
@@ -118,8 +158,37 @@ pub fn tell_unmade(e: Encoded) {
     say(b"  nothing was sent\n");
 }
 
+// What to do about a reply that was damaged, by bus and command: the board may have done what it was asked. On I²C it has kept the reply.
+fn again(bus: Bus, code: usize) -> usize {
+    match bus {
+        Bus::I2c => 0,
+        Bus::Rs485 => match code {
+            0x01 => 1,
+            0x06 => 2,
+            0x07 => 3,
+            _ => 4,
+        },
+    }
+}
+
+fn tell_again(bus: Bus, code: usize) {
+    say_piece(
+        again(bus, code),
+        b"    do: read once more, with i2c-read: the board has kept the reply
+|    do: ask for the version at the new address, then at the old one: the board may have moved
+|    do: begin the upload again at 0: the board may have taken this write, and then refuses it a second time
+|    do: finalize again: it erases nothing twice, and tells the same count
+|    do: ask again: that changes nothing
+",
+    );
+}
+
 // A reply that the master cannot use.
-pub fn tell_undecoded(r: Decoded) {
+pub fn tell_undecoded(r: Decoded, bus: Bus, code: usize) {
+    let n = decoded_number(r) as usize;
     say(b"  the master:\n");
-    tell_number(decoded_number(r) as usize);
+    tell_number(n);
+    if 8 <= n && n <= 11 {
+        tell_again(bus, code);
+    }
 }

@@ -47,22 +47,7 @@ pub enum Word {
     Unknown,
 }
 
-fn plain_word(word: &[u8]) -> Word {
-    if is(word, b"version") {
-        return Word::Plain(PlainWord::Version);
-    }
-    if is(word, b"info") {
-        return Word::Plain(PlainWord::Info);
-    }
-    if is(word, b"serial") {
-        return Word::Plain(PlainWord::Serial);
-    }
-    if is(word, b"revision") {
-        return Word::Plain(PlainWord::Revision);
-    }
-    if is(word, b"longest") {
-        return Word::Plain(PlainWord::Longest);
-    }
+fn order_word(word: &[u8]) -> Word {
     if is(word, b"finalize") {
         return Word::Plain(PlainWord::Finalize);
     }
@@ -78,17 +63,23 @@ fn plain_word(word: &[u8]) -> Word {
     Word::Unknown
 }
 
-// A call, or a plain word.
-fn request_word(word: &[u8]) -> Word {
-    if is(word, b"upload") {
-        return Word::Upload;
+fn query_word(word: &[u8]) -> Word {
+    if is(word, b"info") {
+        return Word::Plain(PlainWord::Info);
     }
-    if is(word, b"write") {
-        return Word::Call(CallWord::Write);
+    if is(word, b"serial") {
+        return Word::Plain(PlainWord::Serial);
     }
-    if is(word, b"read") {
-        return Word::Call(CallWord::Read);
+    if is(word, b"revision") {
+        return Word::Plain(PlainWord::Revision);
     }
+    if is(word, b"longest") {
+        return Word::Plain(PlainWord::Longest);
+    }
+    order_word(word)
+}
+
+fn rare_call_word(word: &[u8]) -> Word {
     if is(word, b"set-address") {
         return Word::Call(CallWord::SetAddress);
     }
@@ -98,7 +89,36 @@ fn request_word(word: &[u8]) -> Word {
     if is(word, b"i2c-read") {
         return Word::Call(CallWord::I2cRead);
     }
-    plain_word(word)
+    query_word(word)
+}
+
+fn call_word(word: &[u8]) -> Word {
+    if is(word, b"upload") {
+        return Word::Upload;
+    }
+    if is(word, b"write") {
+        return Word::Call(CallWord::Write);
+    }
+    if is(word, b"read") {
+        return Word::Call(CallWord::Read);
+    }
+    if is(word, b"version") {
+        return Word::Plain(PlainWord::Version);
+    }
+    rare_call_word(word)
+}
+
+fn show_word(word: &[u8]) -> Word {
+    if is(word, b"state") {
+        return Word::Show(ShowWord::State);
+    }
+    if is(word, b"map") {
+        return Word::Show(ShowWord::Map);
+    }
+    if is(word, b"help") {
+        return Word::Show(ShowWord::Help);
+    }
+    call_word(word)
 }
 
 // The word with this name.
@@ -115,14 +135,5 @@ pub fn word_named(word: &[u8]) -> Word {
     if is(word, b"damage") {
         return Word::Setup(SetupWord::Damage);
     }
-    if is(word, b"state") {
-        return Word::Show(ShowWord::State);
-    }
-    if is(word, b"map") {
-        return Word::Show(ShowWord::Map);
-    }
-    if is(word, b"help") {
-        return Word::Show(ShowWord::Help);
-    }
-    request_word(word)
+    show_word(word)
 }

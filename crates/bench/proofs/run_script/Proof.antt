@@ -6,12 +6,10 @@ use Rattle.bench.proofs.run_script.Statement.{statement}
 use Rattle.bench.proofs.run_script.Tie as tie
 
 abbrev Inv-loop : tie.InvT-loop
-Inv-loop fd line₀ image₀ flash₀ history₀ d₀ turns₀ line image flash history d turns =
-    (length line ≡ length line₀) × (length image ≡ length image₀) × (length flash ≡ length flash₀)
-    × (length history ≡ length history₀)
+Inv-loop fd line₀ memory₀ d₀ turns₀ line memory d turns = (length line ≡ length line₀) × (length memory ≡ length memory₀)
 
 abbrev μ-loop : tie.MeasureT-loop
-μ-loop fd line₀ image₀ flash₀ history₀ d₀ turns₀ line image flash history d turns = turns
+μ-loop fd line₀ memory₀ d₀ turns₀ line memory d turns = turns
 
 new-requires : tie.Need-new-requires Inv-loop μ-loop
 new-requires c κs = search needs
@@ -34,17 +32,14 @@ loop-again c = search needs
 tell-end-requires : tie.Need-tell-end-requires Inv-loop μ-loop
 tell-end-requires c κs = search needs
 
+status-requires : tie.Need-status-requires Inv-loop μ-loop
+status-requires c κs = search needs
+
 same-length : tie.Need-same-length Inv-loop μ-loop
 same-length c = search needs
 
 same-length-2 : tie.Need-same-length-2 Inv-loop μ-loop
 same-length-2 c = search needs
-
-same-length-3 : tie.Need-same-length-3 Inv-loop μ-loop
-same-length-3 c = search needs
-
-same-length-4 : tie.Need-same-length-4 Inv-loop μ-loop
-same-length-4 c = search needs
 
 returns : tie.Need-returns Inv-loop μ-loop
 returns c = search needs
@@ -62,8 +57,7 @@ run-script-spec =
     loop-less
     loop-again
     tell-end-requires
+    status-requires
     same-length
     same-length-2
-    same-length-3
-    same-length-4
     returns)

@@ -6,10 +6,10 @@ use Rattle.bench_exchange.proofs.pages.track.Statement.{statement}
 use Rattle.bench_exchange.proofs.pages.track.Tie as tie
 
 abbrev Inv-loop : tie.InvT-loop
-Inv-loop verbose offset next flash history₀ page₀ n₀ turns₀ history page n turns = length history ≡ length history₀
+Inv-loop verbose offset next memory₀ page₀ n₀ turns₀ memory page n turns = length memory ≡ length memory₀
 
 abbrev μ-loop : tie.MeasureT-loop
-μ-loop verbose offset next flash history₀ page₀ n₀ turns₀ history page n turns = turns
+μ-loop verbose offset next memory₀ page₀ n₀ turns₀ memory page n turns = turns
 
 first-page-requires : tie.Need-first-page-requires Inv-loop μ-loop
 first-page-requires c κs = search needs

@@ -6,11 +6,10 @@ use Rattle.bench_requests.proofs.uploads.send_all.Statement.{statement}
 use Rattle.bench_requests.proofs.uploads.send_all.Tie as tie
 
 abbrev Inv-loop : tie.InvT-loop
-Inv-loop piece all flash₀ history₀ s₀ verbose at₀ turns₀ flash history s at turns =
-    (length flash ≡ length flash₀) × (length history ≡ length history₀)
+Inv-loop piece all memory₀ s₀ verbose at₀ turns₀ memory s at turns = length memory ≡ length memory₀
 
 abbrev μ-loop : tie.MeasureT-loop
-μ-loop piece all flash₀ history₀ s₀ verbose at₀ turns₀ flash history s at turns = turns
+μ-loop piece all memory₀ s₀ verbose at₀ turns₀ memory s at turns = turns
 
 is-short-requires : tie.Need-is-short-requires Inv-loop μ-loop
 is-short-requires c κs = search needs
@@ -24,17 +23,11 @@ sub-turns c = search needs
 same-length : tie.Need-same-length Inv-loop μ-loop
 same-length c = search needs
 
-same-length-2 : tie.Need-same-length-2 Inv-loop μ-loop
-same-length-2 c = search needs
-
 returns : tie.Need-returns Inv-loop μ-loop
 returns c = search needs
 
 piece-end-requires : tie.Need-piece-end-requires Inv-loop μ-loop
 piece-end-requires c κs = search needs
-
-part-requires : tie.Need-part-requires Inv-loop μ-loop
-part-requires c κs = search needs
 
 send-piece-requires : tie.Need-send-piece-requires Inv-loop μ-loop
 send-piece-requires c κs = search needs
@@ -48,11 +41,8 @@ loop-less c = search needs
 loop-again : tie.Need-loop-again Inv-loop μ-loop
 loop-again c = search needs
 
-same-length-3 : tie.Need-same-length-3 Inv-loop μ-loop
-same-length-3 c = search needs
-
-same-length-4 : tie.Need-same-length-4 Inv-loop μ-loop
-same-length-4 c = search needs
+same-length-2 : tie.Need-same-length-2 Inv-loop μ-loop
+same-length-2 c = search needs
 
 returns-2 : tie.Need-returns-2 Inv-loop μ-loop
 returns-2 c = search needs
@@ -67,14 +57,11 @@ send-all-spec =
     loop-holds
     sub-turns
     same-length
-    same-length-2
     returns
     piece-end-requires
-    part-requires
     send-piece-requires
     progress-requires
     loop-less
     loop-again
-    same-length-3
-    same-length-4
+    same-length-2
     returns-2)
