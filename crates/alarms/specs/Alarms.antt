@@ -3,27 +3,24 @@
 use mathlib.Core.Bool.{Bool, true, false, cond, not, _&&_}
 use mathlib.Core.List.{List, [], _∷_}
 use Prim.Native.Nat.{ℕ, _+_, _-_, _*_}
-use lib.Dec.{eqb, leb, ltb}
-use lib.ListN.{length, take, drop, getD}
+use lib.Dec.{eqb, leb}
+use lib.ListN.{length, take, drop}
 use Rattle.rules.specs.declared.kinds.Bus.{Bus}
 use Rattle.rules.specs.declared.kinds.Verdict.{Verdict}
 use Rattle.rules.specs.declared.kinds.Verdict.the-variants.{Reset, Running, ResetAddress, Short, Long, WrongSum, Foreign}
 use Rattle.rules.specs.declared.kinds.Verdict.the-variants.{OtherGeneral, BadTransfer, BadSum, Command}
 use Rattle.rules.specs.Bytes.{same}
 use Rattle.rules.specs.State as rules
+use Rattle.byte_parts.specs.Parts.{standsAt, part}
 use Rattle.ledger.specs.Ledger.{isFinalize}
 use Rattle.state.specs.View.{page}
 use Rattle.state.specs.declared.Upload.{Upload}
-use Rattle.alarms.specs.declared.uploads.UploadEnd.{UploadEnd}
-use Rattle.alarms.specs.declared.uploads.UploadEnd.the-variants.{Whole, Partly, Unchanged}
+use Rattle.alarms.specs.declared.UploadEnd.{UploadEnd}
+use Rattle.alarms.specs.declared.UploadEnd.the-variants.{Whole, Partly, Unchanged}
 
 -- an upload of the code as the rules have it: the waiting bytes are the first `held` of its buffer, as many as it has at the most
 abbrev pub uploadOf : Upload → rules.Upload
 uploadOf u = record { next = u .next; waiting = take (u .held) (u .waiting); count = u .count }
-
--- the byte b stands at a place
-abbrev pub standsAt : List ℕ → ℕ → ℕ → Bool
-standsAt bytes place b = ltb place (length bytes) && eqb (getD bytes place 0) b
 
 -- the flash address of the first waiting byte
 abbrev pub firstWaiting : rules.Upload → ℕ
@@ -69,15 +66,11 @@ ignored BadTransfer = false
 ignored BadSum = false
 ignored Command = false
 
--- n bytes from a place on, or as many as there are; the working flash is S bytes from O on
-abbrev pub part : ℕ → ℕ → List ℕ → List ℕ
-part at n bytes = take n (drop at bytes)
-
 -- the bytes begin with the image
 abbrev pub beginsWith : List ℕ → List ℕ → Bool
 beginsWith bytes image = same (take (length image) bytes) image
 
--- how an upload ended: the working flash begins with the image; or it does not, and has changed since the first write, or has not
+-- how an upload ended: the working flash, S bytes from O on, begins with the image; or it does not, and has changed since the first write, or has not
 unfoldable pub uploadEnd : ℕ → ℕ → List ℕ → List ℕ → List ℕ → UploadEnd
 uploadEnd O S image earlier flash =
     cond (beginsWith (part O S flash) image) Whole

@@ -1,5 +1,72 @@
-// What a technician must not miss: bytes that are lost or still wait, silence that is no dead board, an upload that left a part of its
-// image in flash, an upload that erased nothing. Decided here, from a call and from state and flash before and after it; said elsewhere.
-pub mod calls;
-mod parts;
-pub mod uploads;
+// What a technician must not miss. The definitions of all alarms stand in specs/; silence and a finalize that erased nothing are decided
+// here, lost and waiting bytes in `lost_bytes`, the end of an upload in `upload_ends`. The bench only says them.
+use byte_parts::byte_or;
+use rules::kinds::Bus;
+use rules::kinds::Verdict;
+use state::Upload;
+ghost use mathlib.Core.Path.{_≡_};
+ghost use Rattle.ledger.specs.Ledger.{offsets};
+ghost use Rattle.alarms.specs.Alarms.{uploadOf, erasedNothing};
+ghost use Rattle.alarms.specs.Alarms as alarms;
+
+// How an upload ended.
+pub enum UploadEnd {
+    // The working flash begins with the image.
+    Whole,
+    // It does not, and some of its bytes changed since the first write.
+    Partly,
+    // It does not, and is as it was before the first write.
+    Unchanged,
+}
+
+// Silence that means no dead board: the frame changes nothing and gets no reply.
+pub fn ignored(v: Verdict) -> bool
+    ensures { λ r. ⌜ r ≡ alarms.ignored v ⌝ }
+{
+    match v {
+        Verdict::Reset => false,
+        Verdict::Running => true,
+        Verdict::ResetAddress => false,
+        Verdict::Short => true,
+        Verdict::Long => true,
+        Verdict::WrongSum => true,
+        Verdict::Foreign => true,
+        Verdict::OtherGeneral => true,
+        Verdict::BadTransfer => false,
+        Verdict::BadSum => false,
+        Verdict::Command => false,
+    }
+}
+
+// Where the command stands in a request, and the status in a reply.
+fn command_place(bus: Bus) -> usize
+    ensures { λ r. ⌜ r ≡ offsets bus .command ⌝ }
+{
+    match bus {
+        Bus::I2c => 0,
+        Bus::Rs485 => 1,
+    }
+}
+
+// Erased nothing: the call, given by its frame, number and reply, is an answered finalize, and the erase count is 0.
+pub fn erased_nothing(
+    bus: Bus,
+    frame: &[u8],
+    number: usize,
+    reply: &[u8],
+    after: Upload,
+) -> bool
+    ensures { λ r. ⌜ r ≡ erasedNothing bus (now (frame .entry)) number (now (reply .entry)) (uploadOf after) ⌝ }
+{
+    let place = command_place(bus);
+    if byte_or(frame, place, 0) != 0x07 {
+        return false;
+    }
+    if number != 0 {
+        return false;
+    }
+    if byte_or(reply, place, 1) != 0 {
+        return false;
+    }
+    after.count == 0
+}

@@ -3,7 +3,7 @@ use crate::memory::COPY;
 use crate::memory::EARLIER;
 use crate::memory::FLASH;
 use crate::memory::IMAGE;
-use alarms::uploads::UploadEnd;
+use alarms::UploadEnd;
 use answer::Answer;
 use profile::Profile;
 use rules::kinds::Bus;
@@ -81,12 +81,12 @@ pub(crate) fn lost(
     after: Upload,
     memory: &[u8],
 ) -> usize {
-    alarms::calls::lost(offset, before, after, part(memory, 0, FLASH))
+    lost_bytes::lost(offset, before, after, part(memory, 0, FLASH))
 }
 
 // How many bytes wait.
 pub(crate) fn waiting(u: Upload) -> usize {
-    alarms::calls::waiting(u)
+    lost_bytes::waiting(u)
 }
 
 // Whether a call is a finalize that erased nothing.
@@ -97,22 +97,22 @@ pub(crate) fn erased_nothing(
     reply: &[u8],
     after: Upload,
 ) -> bool {
-    alarms::calls::erased_nothing(bus, frame, number, reply, after)
+    alarms::erased_nothing(bus, frame, number, reply, after)
 }
 
 // Whether a page changed since the last call.
 pub(crate) fn page_changed(offset: usize, page: usize, memory: &[u8]) -> bool {
-    alarms::uploads::page_changed(offset, page, part(memory, COPY, FLASH), part(memory, 0, FLASH))
+    upload_ends::page_changed(offset, page, part(memory, COPY, FLASH), part(memory, 0, FLASH))
 }
 
 // Whether a page changed since the first write of an upload.
 pub(crate) fn page_uploaded(offset: usize, page: usize, memory: &[u8]) -> bool {
-    alarms::uploads::page_changed(offset, page, part(memory, EARLIER, FLASH), part(memory, 0, FLASH))
+    upload_ends::page_changed(offset, page, part(memory, EARLIER, FLASH), part(memory, 0, FLASH))
 }
 
 // How an upload of the first n bytes of the image ended.
 pub(crate) fn upload_end(p: Profile, n: usize, memory: &[u8]) -> UploadEnd {
-    alarms::uploads::upload_end(
+    upload_ends::upload_end(
         p.offset,
         p.size,
         part(memory, IMAGE, n),

@@ -6,7 +6,7 @@ use crate::frames::send;
 use crate::library;
 use crate::memory::FLASH;
 use crate::memory::IMAGE;
-use alarms::uploads::UploadEnd;
+use alarms::UploadEnd;
 use bench_script::output::min;
 use bench_wording::meaning;
 use bench_wording::reply::Asked;

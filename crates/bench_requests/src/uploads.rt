@@ -1,5 +1,5 @@
 // `upload`: the image's length held against S, all frames, finalize, and the whole image read back; and how that ended.
-use alarms::uploads::UploadEnd;
+use alarms::UploadEnd;
 use bench_exchange::bench::Bench;
 use bench_exchange::memory::keep_earlier;
 use bench_exchange::memory::load_data;
@@ -22,6 +22,7 @@ use bench_script::output::tell;
 use bench_script::output::tell_all;
 use bench_wording::alarm::tell_broken_off;
 use bench_wording::alarm::tell_waiting;
+use bench_wording::alarm::tell_waiting_after;
 use rules::kinds::Bus;
 use rules::requests::Request;
 
@@ -196,7 +197,7 @@ fn finish_sent(s: Sent, short: bool, all: usize, memory: &mut [u8]) -> Sent {
         return s;
     }
     if !short {
-        tell_waiting(waiting(d));
+        tell_waiting_after(true, waiting(d));
     }
     finish(d, all, memory)
 }
@@ -209,14 +210,18 @@ fn tell_done(n: usize, count: usize) {
     say(b" erased\n");
 }
 
+fn is_whole(end: UploadEnd) -> bool {
+    if let UploadEnd::Whole = end { true } else { false }
+}
+
 // How the upload ended: done, or broken off with what the flash holds then.
 fn end_upload(s: Sent, n: usize, memory: &[u8]) -> Bench {
     let d = s.bench;
-    if s.fine {
+    let end = upload_end(d, n, memory);
+    if s.fine && is_whole(end) {
         tell_done(n, d.state.upload.count);
         return d;
     }
-    let end = upload_end(d, n, memory);
     tell_broken_off(end);
     if let UploadEnd::Partly = end {
         tell_uploaded(d.profile, memory);

@@ -12,8 +12,9 @@ use bench_script::fields::number;
 use bench_script::fields::rest;
 use bench_script::image::DataKind;
 use bench_script::image::data_kind;
+use bench_script::output::say;
+use bench_script::output::say_count;
 use bench_script::output::tell;
-use bench_script::output::tell_all;
 use bench_wording::alarm::tell_waiting;
 use bench_words::SetupWord;
 
@@ -79,25 +80,61 @@ fn read_damage(s: &[u8]) -> Damage {
     Damage { byte, after }
 }
 
+// `byte` or `reply`: what is damaged.
+enum Target {
+    Frame,
+    Reply,
+    Unknown,
+}
+
+fn target_named(what: &[u8]) -> Target {
+    if is(what, b"byte") {
+        return Target::Frame;
+    }
+    if is(what, b"reply") {
+        return Target::Reply;
+    }
+    Target::Unknown
+}
+
+// Says which byte will be damaged, and how many frames or replies pass before that.
+fn tell_damage(hit: Damage, text: &[u8]) {
+    tell(text, hit.byte);
+    if 0 < hit.after {
+        say(b", after ");
+        say_count(hit.after, b"other");
+    }
+    say(b"\n");
+}
+
+fn damage_frame(d: Bench, hit: Damage) -> Bench {
+    tell_damage(hit, b"  byte % of the next frame will be damaged on its way");
+    d.with_frame_damage(hit)
+}
+
+fn damage_reply(d: Bench, hit: Damage) -> Bench {
+    tell_damage(hit, b"  byte % of the next reply will be damaged on its way");
+    d.with_reply_damage(hit)
+}
+
+fn damage_wrong(d: Bench) -> Bench {
+    d.refused(
+        b"damage byte N or damage reply N, and then perhaps after K: the first byte is 1, and K frames or replies pass first",
+    )
+}
+
 // `damage byte N`, `damage reply N`
 fn set_damage(d: Bench, s: &[u8]) -> Bench {
-    let what = first(s);
     let hit = read_damage(rest(s));
-    if 0 < hit.byte && is(what, b"byte") {
-        tell_all(
-            b"  byte % of a frame will be damaged on its way; frames that pass before that: %\n",
-            [hit.byte, hit.after, 0, 0, 0],
-        );
-        return d.with_frame_damage(hit);
+    if hit.byte == 0 {
+        return damage_wrong(d);
     }
-    if 0 < hit.byte && is(what, b"reply") {
-        tell_all(
-            b"  byte % of a reply will be damaged on its way; replies that pass before that: %\n",
-            [hit.byte, hit.after, 0, 0, 0],
-        );
-        return d.with_reply_damage(hit);
+    let what = target_named(first(s));
+    match what {
+        Target::Frame => damage_frame(d, hit),
+        Target::Reply => damage_reply(d, hit),
+        Target::Unknown => damage_wrong(d),
     }
-    d.refused(b"damage byte N or damage reply N, and then perhaps after K: the first byte is 1, and K frames or replies pass first")
 }
 
 // What follows `board`, `flash`, `to` or `damage`.

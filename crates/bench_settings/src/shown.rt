@@ -7,6 +7,7 @@ use bench_script::output::as_usize;
 use bench_script::output::min;
 use bench_script::output::say;
 use bench_script::output::say_address;
+use bench_script::output::say_count;
 use bench_script::output::tell;
 use bench_script::output::tell_all;
 use bench_wording::alarm::tell_waiting;
@@ -159,9 +160,11 @@ fn tell_still_waiting(n: usize) {
 }
 
 // How often something happened that must not be missed.
-fn tell_times(text: &[u8], n: usize) {
+fn tell_times(before: &[u8], n: usize, thing: &[u8], after: &[u8]) {
     if 0 < n {
-        tell(text, n);
+        say(before);
+        say_count(n, thing);
+        say(after);
     }
 }
 
@@ -177,8 +180,8 @@ fn tell_wrong(wrong: usize, lines: usize) {
 // Says at the end what still waits, what was lost, what failed, and how many lines were not understood.
 pub fn tell_end(d: Bench) {
     tell_still_waiting(waiting(d));
-    tell_times(b"** accepted bytes were lost, times: % **\n", d.losses);
-    tell_times(b"** uploads that failed: % **\n", d.failures);
+    tell_times(b"** accepted bytes were lost ", d.losses, b"time", b" **\n");
+    tell_times(b"** ", d.failures, b"upload", b" failed **\n");
     tell_wrong(d.wrong, d.lines);
 }
 

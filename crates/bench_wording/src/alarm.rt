@@ -1,5 +1,5 @@
 // Alarms in words. What stands between `**` must not be missed. The cases are decided by the crate `alarms`.
-use alarms::uploads::UploadEnd;
+use alarms::UploadEnd;
 use bench_script::output::say;
 use bench_script::output::tell;
 

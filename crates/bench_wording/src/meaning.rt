@@ -1,5 +1,5 @@
 // What a number, a status and a silence mean, and what to do about them. docs/NUMBERS.md has all of them at length.
-use alarms::calls::ignored;
+use alarms::ignored;
 use bench_script::output::as_usize;
 use bench_script::output::say;
 use bench_script::output::say_piece;

@@ -1,0 +1,2 @@
+-- Proofs of the claims.
+pub mod NothingLost

@@ -1,0 +1,2 @@
+-- The alarms and the rules' board.
+pub mod Claims

@@ -1,2 +1,0 @@
--- Laws behind the alarms.
-pub mod AlarmLaws

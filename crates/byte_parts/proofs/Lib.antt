@@ -1,0 +1,2 @@
+-- Laws behind the parts.
+pub mod PartLaws

@@ -1,0 +1,2 @@
+-- Parts of lists of bytes.
+pub mod Parts

@@ -1,0 +1,2 @@
+-- Laws behind the count of lost bytes.
+pub mod LostLaws
