@@ -81,5 +81,6 @@ finalize-loses-nothing p s d n e =
     by-test (eqb (length (s .upload .waiting)) 0)
     (λ none. rw none (kept-loses-nothing (p .offset) (s .upload) d))
     (λ some.
+    let after : Upload = noneWaiting (s .upload) (raise (standing p g)) in
     rw (some, committed-overlay p g f)
-    (laid-loses-nothing (p .offset) (s .upload) (noneWaiting (s .upload) (raise (standing p g))) d (omega (arith, f .room, f .next-le, f .held-le))))
+    (laid-loses-nothing (p .offset) (s .upload) after d (omega (arith, f .room, f .next-le, f .held-le))))

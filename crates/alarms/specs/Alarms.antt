@@ -1,5 +1,5 @@
--- What a technician must not miss after a call or at the end of an upload, by the upload and the flash before and after it. The three errors
--- that these alarms are for: OK to a write taken for bytes in flash, silence taken for a dead board, a second upload taken for harmless.
+-- What a technician must not miss after a call or at the end of an upload, by the upload and the flash before and after it. The three
+-- errors behind these alarms: OK to a write taken for bytes in flash, silence taken for a dead board, a second upload taken for harmless.
 use mathlib.Core.Bool.{Bool, true, false, cond, not, _&&_}
 use mathlib.Core.List.{List, [], _∷_}
 use Prim.Native.Nat.{ℕ, _+_, _-_, _*_}
@@ -70,7 +70,8 @@ ignored Command = false
 abbrev pub beginsWith : List ℕ → List ℕ → Bool
 beginsWith bytes image = same (take (length image) bytes) image
 
--- how an upload ended: the working flash, S bytes from O on, begins with the image; or it does not, and has changed since the first write, or has not
+-- how an upload ended: the working flash, S bytes from O on, begins with the image; or it does not, and has changed since the first
+-- write, or has not
 unfoldable pub uploadEnd : ℕ → ℕ → List ℕ → List ℕ → List ℕ → UploadEnd
 uploadEnd O S image earlier flash =
     cond (beginsWith (part O S flash) image) Whole

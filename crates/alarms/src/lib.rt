@@ -49,13 +49,7 @@ fn command_place(bus: Bus) -> usize
 }
 
 // Erased nothing: the call, given by its frame, number and reply, is an answered finalize, and the erase count is 0.
-pub fn erased_nothing(
-    bus: Bus,
-    frame: &[u8],
-    number: usize,
-    reply: &[u8],
-    after: Upload,
-) -> bool
+pub fn erased_nothing(bus: Bus, frame: &[u8], number: usize, reply: &[u8], after: Upload) -> bool
     ensures { λ r. ⌜ r ≡ erasedNothing bus (now (frame .entry)) number (now (reply .entry)) (uploadOf after) ⌝ }
 {
     let place = command_place(bus);

@@ -33,11 +33,7 @@ fn run_line(d: Bench, s: &[u8], memory: &mut [u8]) -> Bench {
 }
 
 // Shows a line again and runs it; `say` and comments are only shown.
-fn show_and_run_line(
-    d: Bench,
-    line: &[u8],
-    memory: &mut [u8],
-) -> Bench {
+fn show_and_run_line(d: Bench, line: &[u8], memory: &mut [u8]) -> Bench {
     let s = trimmed(line);
     if is_comment(s) {
         shown::line(b"", s);
@@ -52,12 +48,7 @@ fn show_and_run_line(
 }
 
 // Cleans the line in the first n bytes, and runs it.
-fn clean_and_run_line(
-    d: Bench,
-    line: &mut [u8],
-    n: usize,
-    memory: &mut [u8],
-) -> Bench {
+fn clean_and_run_line(d: Bench, line: &mut [u8], n: usize, memory: &mut [u8]) -> Bench {
     if line.len() < n {
         return d.at_end();
     }
@@ -69,12 +60,7 @@ fn clean_and_run_line(
 }
 
 // Reads and runs the next line of the script.
-pub fn run_next_line(
-    d: Bench,
-    fd: i32,
-    line: &mut [u8],
-    memory: &mut [u8],
-) -> Bench {
+pub fn run_next_line(d: Bench, fd: i32, line: &mut [u8], memory: &mut [u8]) -> Bench {
     let got = lines::read_line(fd, line);
     match got {
         Line::End => d.at_end(),

@@ -204,7 +204,8 @@ fn tell_since(verbose: bool, d: Bench, after: State, memory: &mut [u8]) {
 // Gives a frame to the board, and says what the board answered and what changed.
 fn deliver(d: Bench, asked: Asked, frame: &[u8], memory: &mut [u8]) -> Exchange {
     let c = call_board(d, asked, frame, memory);
-    let now = d.exchanged(asked.code, asked.length, c.state).losing(c.lost);
+    let now = d.exchanged(asked.code, asked.length, c.state)
+        .losing(c.lost);
     let reply = fetched(now, asked, c, memory);
     let result = decoded(asked, reply);
     tell_alarms(asked.verbose, c, result.status);

@@ -47,13 +47,7 @@ pub(crate) fn receive(
     board::receive(p, s, address, frame, &mut memory[0..FLASH], out)
 }
 
-pub(crate) fn read(
-    p: Profile,
-    s: State,
-    address: u8,
-    memory: &[u8],
-    out: &mut [u8],
-) -> Answer {
+pub(crate) fn read(p: Profile, s: State, address: u8, memory: &[u8], out: &mut [u8]) -> Answer {
     readout::read(p, s, address, part(memory, 0, FLASH), out)
 }
 
@@ -75,12 +69,7 @@ pub(crate) fn encode(
 }
 
 // How many waiting bytes a call lost.
-pub(crate) fn lost(
-    offset: usize,
-    before: Upload,
-    after: Upload,
-    memory: &[u8],
-) -> usize {
+pub(crate) fn lost(offset: usize, before: Upload, after: Upload, memory: &[u8]) -> usize {
     lost_bytes::lost(offset, before, after, part(memory, 0, FLASH))
 }
 
@@ -102,12 +91,22 @@ pub(crate) fn erased_nothing(
 
 // Whether a page changed since the last call.
 pub(crate) fn page_changed(offset: usize, page: usize, memory: &[u8]) -> bool {
-    upload_ends::page_changed(offset, page, part(memory, COPY, FLASH), part(memory, 0, FLASH))
+    upload_ends::page_changed(
+        offset,
+        page,
+        part(memory, COPY, FLASH),
+        part(memory, 0, FLASH),
+    )
 }
 
 // Whether a page changed since the first write of an upload.
 pub(crate) fn page_uploaded(offset: usize, page: usize, memory: &[u8]) -> bool {
-    upload_ends::page_changed(offset, page, part(memory, EARLIER, FLASH), part(memory, 0, FLASH))
+    upload_ends::page_changed(
+        offset,
+        page,
+        part(memory, EARLIER, FLASH),
+        part(memory, 0, FLASH),
+    )
 }
 
 // How an upload of the first n bytes of the image ended.

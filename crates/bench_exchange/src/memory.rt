@@ -9,6 +9,7 @@ use bench_script::image::fill;
 pub const FLASH: usize = 131072;
 // The flash as it was after the last call, and how often each of its pages was rewritten since.
 pub const COPY: usize = FLASH;
+
 pub const COUNTS: usize = COPY + FLASH;
 // The most pages that a working flash has.
 pub const PAGES: usize = 1023;
@@ -16,6 +17,7 @@ pub const PAGES: usize = 1023;
 pub const EARLIER: usize = COUNTS + PAGES;
 // The bytes that a line gives, as many as the flash has at the most; a file with more can be told by one byte more.
 pub const IMAGE: usize = EARLIER + FLASH;
+
 pub const MEMORY: usize = IMAGE + FLASH + 1;
 
 // Copies the flash to another place.

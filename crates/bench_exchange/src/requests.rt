@@ -96,12 +96,7 @@ pub fn waiting(d: Bench) -> usize {
 
 // How many waiting bytes are lost if the board is exchanged for a fresh one.
 pub fn lost_with_board(d: Bench, fresh: Bench, memory: &[u8]) -> usize {
-    library::lost(
-        d.profile.offset,
-        d.state.upload,
-        fresh.state.upload,
-        memory,
-    )
+    library::lost(d.profile.offset, d.state.upload, fresh.state.upload, memory)
 }
 
 // How an upload of the first n bytes of the image ended.

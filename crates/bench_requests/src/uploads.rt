@@ -211,7 +211,11 @@ fn tell_done(n: usize, count: usize) {
 }
 
 fn is_whole(end: UploadEnd) -> bool {
-    if let UploadEnd::Whole = end { true } else { false }
+    if let UploadEnd::Whole = end {
+        true
+    } else {
+        false
+    }
 }
 
 // How the upload ended: done, or broken off with what the flash holds then.

@@ -71,7 +71,11 @@ pub fn number(s: &[u8], most: usize) -> Parsed {
         }
         i += 1;
     }
-    if i == 0 { Parsed::Wrong } else { Parsed::Value(value) }
+    if i == 0 {
+        Parsed::Wrong
+    } else {
+        Parsed::Value(value)
+    }
 }
 
 // The value of a hexadecimal digit; 16 for any other byte.

@@ -108,12 +108,18 @@ fn tell_damage(hit: Damage, text: &[u8]) {
 }
 
 fn damage_frame(d: Bench, hit: Damage) -> Bench {
-    tell_damage(hit, b"  byte % of the next frame will be damaged on its way");
+    tell_damage(
+        hit,
+        b"  byte % of the next frame will be damaged on its way",
+    );
     d.with_frame_damage(hit)
 }
 
 fn damage_reply(d: Bench, hit: Damage) -> Bench {
-    tell_damage(hit, b"  byte % of the next reply will be damaged on its way");
+    tell_damage(
+        hit,
+        b"  byte % of the next reply will be damaged on its way",
+    );
     d.with_reply_damage(hit)
 }
 

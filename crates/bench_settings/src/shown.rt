@@ -77,11 +77,7 @@ fn mark(page: usize, waiting: usize, memory: &[u8]) -> u8 {
 
 // The page with waiting bytes, if there is one.
 fn waiting_page(held: usize, next: usize) -> usize {
-    if held == 0 {
-        65536
-    } else {
-        next / State::PAGE
-    }
+    if held == 0 { 65536 } else { next / State::PAGE }
 }
 
 // What stands before a page's mark: a new line with the address every 32 pages.

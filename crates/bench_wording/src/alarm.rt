@@ -22,7 +22,9 @@ pub fn tell_lost(n: usize) {
         b"  ** 1 accepted byte is lost: it neither waits nor stands in flash **\n",
         b"  ** % accepted bytes are lost: they neither wait nor stand in flash **\n",
     );
-    say(b"    do: write them again, and finalize before a start, a reset, another board or a new write at 0\n");
+    say(
+        b"    do: write them again, and finalize before a start, a reset, another board or a new write at 0\n",
+    );
 }
 
 fn tell_finalize() {

@@ -55,8 +55,16 @@ fn tell_number(text: &[u8], from: usize, to: usize) -> bool {
 // Changes of the upload; whether there is one.
 fn tell_upload(before: Upload, after: Upload) -> bool {
     let next = tell_number(b"  changed: next address % -> %\n", before.next, after.next);
-    let held = tell_number(b"  changed: waiting bytes % -> %\n", before.held, after.held);
-    let count = tell_number(b"  changed: erase count % -> %\n", before.count, after.count);
+    let held = tell_number(
+        b"  changed: waiting bytes % -> %\n",
+        before.held,
+        after.held,
+    );
+    let count = tell_number(
+        b"  changed: erase count % -> %\n",
+        before.count,
+        after.count,
+    );
     next || held || count
 }
 

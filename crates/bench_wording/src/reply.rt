@@ -21,7 +21,8 @@ pub struct Asked {
     pub verbose: bool,
 }
 
-// What the master got: the status, or NO_STATUS; where the results lie in the reply; the erase count of a finalize, or S of a hardware info.
+// What the master got: the status, or NO_STATUS; where the results lie in the reply; the erase count of a finalize, or S of a hardware
+// info.
 pub struct RequestResult {
     pub status: usize,
     pub start: usize,

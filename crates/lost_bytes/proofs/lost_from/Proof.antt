@@ -25,7 +25,7 @@ loop-holds c =
       search needs,
       search needs,
       ap (λ (x : ℕ). lostFrom (a .flash .now) (a .first) (a .waiting .now) x (a .bytes .now)) (sym (add-zero (a .address)))
-      ∙ sym (zero-add _),
+          ∙ sym (zero-add _),
     )
 
 add-lost-byte : tie.Need-add-lost-byte Inv-loop μ-loop
