@@ -1,17 +1,16 @@
--- `case_setup::setup::fill` is safe and ends.
+-- `cases::fill` is safe and ends.
 use mathlib.Core.Path.{_≡_}
-use Prim.Native.Nat.{_≤_, _<_, _-_}
-use native.Mathlib.Omega.{arith}
+use Prim.Native.Nat.{_<_, _-_}
 use borrow.Author.Needs.{needs}
-use lib.ListN.{length, length-set}
-use Rattle.case_setup.proofs.setup.fill.Statement.{statement}
-use Rattle.case_setup.proofs.setup.fill.Tie as tie
+use lib.ListN.{length}
+use Rattle.cases.proofs.fill.Statement.{statement}
+use Rattle.cases.proofs.fill.Tie as tie
 
 abbrev Inv-loop : tie.InvT-loop
-Inv-loop flash₀ a b step v₀ i₀ flash v i = (v < 256) × (length flash ≡ length flash₀)
+Inv-loop flash₀ len a b step v₀ i₀ flash v i = (v < 256) × (length flash ≡ length flash₀)
 
 abbrev μ-loop : tie.MeasureT-loop
-μ-loop flash₀ a b step v₀ i₀ flash v i = length flash₀ - i
+μ-loop flash₀ len a b step v₀ i₀ flash v i = length flash₀ - i
 
 loop-holds : tie.Need-loop-holds Inv-loop μ-loop
 loop-holds c = search needs
@@ -32,13 +31,19 @@ loop-less : tie.Need-loop-less Inv-loop μ-loop
 loop-less c = search needs
 
 loop-again : tie.Need-loop-again Inv-loop μ-loop
-loop-again c = (omega arith, simp length-set (omega arith))
+loop-again c = search needs
 
 same-length : tie.Need-same-length Inv-loop μ-loop
 same-length c = search needs
 
 returns : tie.Need-returns Inv-loop μ-loop
 returns c = search needs
+
+same-length-2 : tie.Need-same-length-2 Inv-loop μ-loop
+same-length-2 c = search needs
+
+returns-2 : tie.Need-returns-2 Inv-loop μ-loop
+returns-2 c = search needs
 
 pub fill-spec : {M : Type 1} → statement M
 fill-spec =
@@ -54,4 +59,6 @@ fill-spec =
     loop-less
     loop-again
     same-length
-    returns)
+    returns
+    same-length-2
+    returns-2)

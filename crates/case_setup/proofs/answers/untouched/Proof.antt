@@ -1,10 +1,9 @@
--- `case_setup::fields::is_untouched` is safe and ends. Nothing has to hold from turn to turn.
+-- `case_setup::answers::untouched` is safe and ends. Nothing has to hold from turn to turn.
 use Prim.Native.Nat.{_-_}
-use native.Mathlib.Omega.{arith}
 use borrow.Author.Needs.{needs}
 use lib.ListN.{length}
-use Rattle.case_setup.proofs.fields.is_untouched.Statement.{statement}
-use Rattle.case_setup.proofs.fields.is_untouched.Tie as tie
+use Rattle.case_setup.proofs.answers.untouched.Statement.{statement}
+use Rattle.case_setup.proofs.answers.untouched.Tie as tie
 
 abbrev Inv-loop : tie.InvT-loop
 Inv-loop out at i₀ i = Unit {0}
@@ -36,8 +35,8 @@ loop-again c = search needs
 returns-3 : tie.Need-returns-3 Inv-loop μ-loop
 returns-3 c = search needs
 
-pub is-untouched-spec : {M : Type 1} → statement M
-is-untouched-spec =
+pub untouched-spec : {M : Type 1} → statement M
+untouched-spec =
     tie.close
     (tie.spec
     Inv-loop
