@@ -1,1 +1,1 @@
-pub mod ServeLaws
+pub mod HandleLaws

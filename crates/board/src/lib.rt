@@ -4,55 +4,21 @@ use answer::Answer;
 use answer::destination;
 use answer::fault;
 use answer::no_reply;
-use answer::respond;
-use frame::sizes::header_length;
-use frame::sizes::sum_length;
-use profile::Check;
 use profile::Profile;
+use refusal::Check;
 use response::INVALID_CRC;
 use response::INVALID_TRANSFER;
 use rules::kinds::Verdict;
+use serve::serve;
 use state::State;
-use widening::wide;
 ghost use mathlib.Core.Path.{_≡_};
-ghost use Prim.Native.Nat.{_≤_};
 ghost use lib.ListN.{length};
 ghost use Rattle.rules.specs.Frames as frames;
-ghost use Rattle.rules.specs.Frames.{shortestRequest, commandOf, argumentsOf};
-ghost use Rattle.rules.specs.Commands.{executed};
-ghost use Rattle.rules.specs.Board.{finishedCall, handled, received};
+ghost use Rattle.rules.specs.Board.{handled, received};
 ghost use Rattle.laws.proofs.StateLaws as laws;
 ghost use Rattle.state.specs.View.{view};
 ghost use Rattle.profile.specs.View.{profileOf};
 ghost use Rattle.answer.specs.Answered.{callEffect, expectedEffect, Answered};
-
-// A well-framed command to this board: taken apart, executed, answered.
-fn serve(
-    p: Profile,
-    s: State,
-    address: u8,
-    frame: &[u8],
-    flash: &mut [u8],
-    out: &mut [u8],
-) -> Answer
-    requires { ⌜ laws.Unrefused (profileOf p) (view s) (length (now flash)) (length (now out)) ⌝ }
-    requires { ⌜ shortestRequest (p .bus) ≤ length (now frame) ⌝ }
-    ensures { λ r.
-        ⌜ callEffect r (now (flash .exit)) (now (out .exit))
-        ≡ expectedEffect
-        (finishedCall (p .bus) (frames.destination (p .bus) address (now (frame .entry)))
-        (executed (profileOf p) (view s) (commandOf (p .bus) (now (frame .entry))) (argumentsOf (p .bus) (now (frame .entry)))
-        (now (flash .entry))))
-        (now (out .entry)) ⌝ }
-{
-    let bus = p.bus;
-    let head = header_length(bus);
-    let code = wide(frame[head]);
-    let start = head + 1;
-    let end = frame.len() - sum_length(bus);
-    let done = commands::execute(p, s, code, &frame[start..end], flash, out, head + 2);
-    respond(bus, destination(bus, address, frame), done, out)
-}
 
 // A frame by its verdict.
 fn handle(
@@ -108,7 +74,7 @@ pub fn receive(
         ⌜ Answered s r (now (flash .exit)) (now (out .exit)) (now (out .entry))
         (received (profileOf p) (view s) address (now (frame .entry)) (now (flash .entry)) (length (now (out .entry)))) ⌝ }
 {
-    let check = profile::refuse(p, s, flash.len(), out.len());
+    let check = refusal::refuse(p, s, flash.len(), out.len());
     if let Check::Refused(outcome) = check {
         return Answer { outcome, state: s };
     }

@@ -1,15 +1,17 @@
 // The lines of master calls: E, D, T and V.
-use case_setup::fields::UNTOUCHED;
-use case_setup::fields::put_hex;
-use case_setup::fields::put_number;
-use case_setup::fields::put_untouched;
-use case_setup::setup::MOST;
+use case_setup::answers::UNTOUCHED;
+use case_setup::answers::put_end;
+use case_setup::answers::put_hex;
+use case_setup::answers::put_letter;
+use case_setup::answers::put_number;
+use case_setup::answers::put_numbers;
+use case_setup::answers::untouched;
+use case_setup::fields::Fields;
 use case_setup::setup::bus_of;
 use case_setup::setup::byte;
 use numbers::decoded_number;
 use numbers::encoded_length;
 use numbers::encoded_number;
-use rules::kinds::Bus;
 use rules::requests::Decoded;
 use rules::requests::Encoded;
 use rules::requests::Request;
@@ -17,17 +19,6 @@ use rules::requests::Version;
 use rules::requests::Which;
 use text::part::first;
 use text::part::within;
-use text::read::is_read;
-use text::read::read_hex;
-use text::read::read_number;
-use text::read::read_numbers;
-use text::write::write_byte;
-
-// The place after the answer in the output, and whether the line was good.
-pub struct Put {
-    pub to: usize,
-    pub good: bool,
-}
 
 // The request of a line's numbers.
 fn request_of(code: usize, a: usize, b: usize) -> Request {
@@ -48,111 +39,48 @@ fn request_of(code: usize, a: usize, b: usize) -> Request {
 }
 
 // The line of an encoder call: E number request bufferok
-fn put_encoded(out: &mut [u8], at: usize, e: Encoded, made: &[u8]) -> usize {
+fn put_encoded(e: Encoded, made: &[u8; 512], lent: usize) {
     let n = encoded_length(e);
-    let mut to = write_byte(out, at, b'E');
-    to = put_number(out, to, encoded_number(e) as usize);
-    to = put_hex(out, to, first(made, n));
-    to = put_untouched(out, to, made, n);
-    write_byte(out, to, b'\n')
-}
-
-// A request, with its data and the lent output.
-fn answer_request(
-    bus: Bus,
-    longest: usize,
-    request: Request,
-    destination: usize,
-    data: &[u8],
-    made: &mut [u8],
-    out: &mut [u8],
-    at: usize,
-) -> Put {
-    let e = encoder::encode::encode(bus, longest, request, destination, data, made);
-    Put {
-        to: put_encoded(out, at, e, made),
-        good: true,
-    }
+    put_letter(b'E');
+    put_number(encoded_number(e) as usize);
+    put_hex(first(made, n));
+    put_number(untouched(first(made, lent), n));
+    put_end();
 }
 
 // E bus M code destination a b data
-fn encode(line: &[u8], room: usize, out: &mut [u8], at: usize) -> Put {
-    let bus = read_number(line, 2, 1);
-    let mut numbers = [0usize; 5];
-    let next = read_numbers(line, bus.next, MOST, &mut numbers);
-    let mut data = [0u8; 600];
-    let bytes = read_hex(line, next, &mut data);
-    if !is_read(line, bytes.next) {
-        return Put {
-            to: at,
-            good: false,
-        };
-    }
+fn encode(f: Fields, room: usize) {
+    let n = f.numbers;
+    let data = f.first;
     let mut made = [UNTOUCHED; 512];
-    let n = bytes.value;
     let lent = within(&made, room);
-    answer_request(
-        bus_of(bus.value),
-        numbers[0],
-        request_of(numbers[1], numbers[3], numbers[4]),
-        numbers[2],
-        &data[..n],
+    let e = encoder::encode::encode(
+        bus_of(n[0]),
+        n[1],
+        request_of(n[2], n[4], n[5]),
+        n[3],
+        first(&data, f.firstlen),
         &mut made[..lent],
-        out,
-        at,
-    )
+    );
+    put_encoded(e, &made, lent);
 }
 
 // The line of a decoder call: D number status start length
-fn put_four(
-    out: &mut [u8],
-    at: usize,
-    number: usize,
-    status: usize,
-    start: usize,
-    len: usize,
-) -> usize {
-    let mut to = write_byte(out, at, b'D');
-    to = put_number(out, to, number);
-    to = put_number(out, to, status);
-    to = put_number(out, to, start);
-    to = put_number(out, to, len);
-    write_byte(out, to, b'\n')
-}
-
-fn put_decoded(out: &mut [u8], at: usize, d: Decoded) -> usize {
+fn decoded_fields(d: Decoded) -> [usize; 4] {
     let Decoded::Reply { status, start, len } = d else {
-        return put_four(out, at, decoded_number(d) as usize, 0, 0, 0);
+        return [decoded_number(d) as usize, 0, 0, 0];
     };
-    put_four(out, at, 0, status as usize, start, len)
+    [0, status as usize, start, len]
 }
 
 // D bus code address asked reply
-fn decode(line: &[u8], out: &mut [u8], at: usize) -> Put {
-    let bus = read_number(line, 2, 1);
-    let code = read_number(line, bus.next, MOST);
-    let address = read_number(line, code.next, 255);
-    let asked = read_number(line, address.next, MOST);
-    let mut reply = [0u8; 600];
-    let bytes = read_hex(line, asked.next, &mut reply);
-    if !is_read(line, bytes.next) {
-        return Put {
-            to: at,
-            good: false,
-        };
-    }
-    let n = bytes.value;
-    let d = decoder::decode::decode(
-        bus_of(bus.value),
-        code.value,
-        address.value,
-        asked.value,
-        &reply[..n],
-    );
-    Put {
-        to: put_decoded(out, at, d),
-        good: true,
-    }
+fn decode(f: Fields) {
+    let n = f.numbers;
+    let reply = f.first;
+    let d = decoder::decode::decode(bus_of(n[0]), n[1], n[2], n[3], first(&reply, f.firstlen));
+    put_letter(b'D');
+    put_numbers(&decoded_fields(d));
+    put_end();
 }
 
 fn which_number(w: Which) -> usize {
@@ -163,94 +91,49 @@ fn which_number(w: Which) -> usize {
     }
 }
 
-// The line of two reads: T which results
-fn put_reads(out: &mut [u8], at: usize, w: Which, results: &[u8]) -> usize {
-    let mut to = write_byte(out, at, b'T');
-    to = put_number(out, to, which_number(w));
-    to = put_hex(out, to, results);
-    write_byte(out, to, b'\n')
-}
-
-// Two reads of one reply.
-fn answer_reads<'a>(
-    code: usize,
-    asked: usize,
-    first: &'a [u8],
-    second: &'a [u8],
-    out: &mut [u8],
-    at: usize,
-) -> Put {
-    let w = two_reads::which_read(code, asked, first, second);
-    let results = two_reads::results(code, asked, first, second);
-    Put {
-        to: put_reads(out, at, w, results),
-        good: true,
-    }
+// The line of two reads of one reply: T which results
+fn put_reads<'a>(code: usize, asked: usize, first: &'a [u8], second: &'a [u8]) {
+    put_letter(b'T');
+    put_number(which_number(two_reads::which_read(code, asked, first, second)));
+    put_hex(two_reads::results(code, asked, first, second));
+    put_end();
 }
 
 // T code asked first second
-fn two_reads(line: &[u8], out: &mut [u8], at: usize) -> Put {
-    let code = read_number(line, 2, MOST);
-    let asked = read_number(line, code.next, MOST);
-    let mut one = [0u8; 600];
-    let n = read_hex(line, asked.next, &mut one);
-    let mut two = [0u8; 600];
-    let m = read_hex(line, n.next, &mut two);
-    if !is_read(line, m.next) {
-        return Put {
-            to: at,
-            good: false,
-        };
-    }
-    answer_reads(
-        code.value,
-        asked.value,
-        first(&one, n.value),
-        first(&two, m.value),
-        out,
-        at,
-    )
+fn two_reads(f: Fields) {
+    let n = f.numbers;
+    let one = f.first;
+    let two = f.second;
+    put_reads(
+        n[0],
+        n[1],
+        first(&one, f.firstlen),
+        first(&two, f.secondlen),
+    );
 }
 
 // The line of the version rule: V number major minor
-fn put_three(out: &mut [u8], at: usize, number: usize, major: u8, minor: u8) -> usize {
-    let mut to = write_byte(out, at, b'V');
-    to = put_number(out, to, number);
-    to = put_number(out, to, major as usize);
-    to = put_number(out, to, minor as usize);
-    write_byte(out, to, b'\n')
-}
-
-fn put_version(out: &mut [u8], at: usize, v: Version) -> usize {
+fn version_fields(v: Version) -> [usize; 3] {
     match v {
-        Version::Known { major, minor } => put_three(out, at, 0, major, minor),
-        Version::Unknown => put_three(out, at, 14, 0, 0),
+        Version::Known { major, minor } => [0, major as usize, minor as usize],
+        Version::Unknown => [14, 0, 0],
     }
 }
 
 // V major minor
-fn version(line: &[u8], out: &mut [u8], at: usize) -> Put {
-    let major = read_number(line, 2, 255);
-    let minor = read_number(line, major.next, 255);
-    if !is_read(line, minor.next) {
-        return Put {
-            to: at,
-            good: false,
-        };
-    }
-    let v = version_rule::version(byte(major.value), byte(minor.value));
-    Put {
-        to: put_version(out, at, v),
-        good: true,
-    }
+fn version(f: Fields) {
+    let n = f.numbers;
+    put_letter(b'V');
+    put_numbers(&version_fields(version_rule::version(byte(n[0]), byte(n[1]))));
+    put_end();
 }
 
 // A master call, by its letter, with the size of the lent output.
-pub fn call_master(letter: u8, line: &[u8], room: usize, out: &mut [u8], at: usize) -> Put {
+pub fn call_master(letter: u8, f: Fields, room: usize) {
     match letter {
-        b'E' => encode(line, room, out, at),
-        b'D' => decode(line, out, at),
-        b'T' => two_reads(line, out, at),
-        _ => version(line, out, at),
+        b'E' => encode(f, room),
+        b'D' => decode(f),
+        b'T' => two_reads(f),
+        _ => version(f),
     }
 }

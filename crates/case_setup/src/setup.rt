@@ -1,18 +1,11 @@
 // What the lines of a case file have set, and the lines that set it: P, F, Z, S and B.
+use crate::fields::Fields;
 use profile::Profile;
 use rules::kinds::Address;
 use rules::kinds::Bus;
 use state::Last;
 use state::State;
 use state::Upload;
-use text::part::within;
-use text::read::is_read;
-use text::read::read_hex;
-use text::read::read_number;
-use text::read::read_numbers;
-
-// The largest number that a line holds.
-pub const MOST: u32 = 4294967295;
 
 pub struct Setup {
     pub profile: Profile,
@@ -24,24 +17,6 @@ pub struct Setup {
     // whether a profile and a flash were set
     pub profiled: bool,
     pub flashed: bool,
-}
-
-// A setup after a line, and whether the line was good.
-pub struct Set {
-    pub setup: Setup,
-    pub good: bool,
-}
-
-// What a P line says.
-struct NewProfile {
-    profile: Profile,
-    good: bool,
-}
-
-// What an S line says.
-struct NewState {
-    state: State,
-    good: bool,
 }
 
 fn no_profile() -> Profile {
@@ -93,6 +68,18 @@ impl Setup {
         self.room = room;
         self
     }
+
+    // After a good line that sets something. A P, F, Z, S or B line; the bytes of a flash are filled elsewhere.
+    pub fn after(self, letter: u8, f: Fields) -> Self {
+        let n = f.numbers;
+        match letter {
+            b'P' => self.with_profile(profile_of(f)),
+            b'F' => self.with_flash(n[0]),
+            b'Z' => self.with_state(State::fresh()),
+            b'S' => self.with_state(state_of(f)),
+            _ => self.with_room(n[0]),
+        }
+    }
 }
 
 // 0 I²C, 1 RS485
@@ -105,92 +92,6 @@ pub fn byte(n: usize) -> u8 {
     (n % 256) as u8
 }
 
-// The bytes of a serial that a profile holds. A longer serial is out of range by its length.
-fn first_bytes(serial: &[u8; 40]) -> [u8; 16] {
-    let mut first = [0u8; 16];
-    for k in 0usize..16 {
-        first[k] = serial[k];
-    }
-    first
-}
-
-// P bus M S O hardware compatible actual version serial
-fn profile_of(line: &[u8]) -> NewProfile {
-    let bus = read_number(line, 2, 1);
-    let mut sizes = [0usize; 3];
-    let types = read_numbers(line, bus.next, MOST, &mut sizes);
-    let mut bytes = [0usize; 4];
-    let at = read_numbers(line, types, 255, &mut bytes);
-    let mut serial = [0u8; 40];
-    let len = read_hex(line, at, &mut serial);
-    NewProfile {
-        profile: Profile {
-            bus: bus_of(bus.value),
-            longest: sizes[0],
-            size: sizes[1],
-            offset: sizes[2],
-            hardware: byte(bytes[0]),
-            compatible: byte(bytes[1]),
-            actual: byte(bytes[2]),
-            version: byte(bytes[3]),
-            serial: first_bytes(&serial),
-            seriallen: len.value,
-        },
-        good: is_read(line, len.next),
-    }
-}
-
-fn set_profile(line: &[u8], setup: Setup) -> Set {
-    let new = profile_of(line);
-    let profile = new.profile;
-    if !new.good {
-        return Set { setup, good: false };
-    }
-    Set {
-        setup: setup.with_profile(profile),
-        good: true,
-    }
-}
-
-// Byte i of a flash is a * i + b, modulo 256.
-fn fill(flash: &mut [u8], a: usize, b: usize) {
-    let step = a % 256;
-    let mut v = b % 256;
-    let mut i = 0;
-    while i < flash.len() {
-        flash[i] = byte(v);
-        v = (v + step) % 256;
-        i += 1;
-    }
-}
-
-// F len a b
-fn set_flash(line: &[u8], setup: Setup, flash: &mut [u8]) -> Set {
-    let len = read_number(line, 2, 131072);
-    let a = read_number(line, len.next, MOST);
-    let b = read_number(line, a.next, MOST);
-    if !is_read(line, b.next) {
-        return Set { setup, good: false };
-    }
-    let n = within(flash, len.value);
-    fill(&mut flash[..n], a.value, b.value);
-    Set {
-        setup: setup.with_flash(n),
-        good: true,
-    }
-}
-
-// Z
-fn set_fresh(line: &[u8], setup: Setup) -> Set {
-    if !is_read(line, 2) {
-        return Set { setup, good: false };
-    }
-    Set {
-        setup: setup.with_state(State::fresh()),
-        good: true,
-    }
-}
-
 // 256 is the default range.
 fn address_of(n: usize) -> Address {
     if n == 256 {
@@ -200,71 +101,57 @@ fn address_of(n: usize) -> Address {
     }
 }
 
-// Both buffers of an S line are whole.
-fn are_whole(waiting: usize, reply: usize) -> bool {
-    waiting == State::PAGE && reply == State::LARGEST_FRAME
+// Fills an array from the start of a longer one.
+fn copy(to: &mut [u8], from: &[u8]) {
+    let mut i = 0;
+    while i < to.len() && i < from.len() {
+        to[i] = from[i];
+        i += 1;
+    }
+}
+
+// P bus M S O hardware compatible actual version serial
+fn profile_of(f: Fields) -> Profile {
+    let n = f.numbers;
+    let given = f.first;
+    // a longer serial is out of range by its length
+    let mut serial = [0u8; Profile::LONGEST_SERIAL];
+    copy(&mut serial, &given);
+    Profile {
+        bus: bus_of(n[0]),
+        longest: n[1],
+        size: n[2],
+        offset: n[3],
+        hardware: byte(n[4]),
+        compatible: byte(n[5]),
+        actual: byte(n[6]),
+        version: byte(n[7]),
+        serial,
+        seriallen: f.firstlen,
+    }
 }
 
 // S own running next w count replylen waiting reply
-fn state_of(line: &[u8]) -> NewState {
-    let own = read_number(line, 2, 256);
-    let running = read_number(line, own.next, 1);
-    let mut numbers = [0usize; 4];
-    let at = read_numbers(line, running.next, MOST, &mut numbers);
+fn state_of(f: Fields) -> State {
+    let n = f.numbers;
+    let first = f.first;
+    let second = f.second;
     let mut waiting = [0u8; State::PAGE];
-    let w = read_hex(line, at, &mut waiting);
-    let mut bytes = [0u8; State::LARGEST_FRAME];
-    let r = read_hex(line, w.next, &mut bytes);
-    NewState {
-        state: State {
-            address: address_of(own.value),
-            running: running.value == 1,
-            upload: Upload {
-                next: numbers[0],
-                held: numbers[1],
-                count: numbers[2],
-                waiting,
-            },
-            last: Last {
-                len: numbers[3],
-                bytes,
-            },
+    copy(&mut waiting, &first);
+    let mut reply = [0u8; State::LARGEST_FRAME];
+    copy(&mut reply, &second);
+    State {
+        address: address_of(n[0]),
+        running: n[1] == 1,
+        upload: Upload {
+            next: n[2],
+            held: n[3],
+            count: n[4],
+            waiting,
         },
-        good: is_read(line, r.next) && are_whole(w.value, r.value),
-    }
-}
-
-fn set_state(line: &[u8], setup: Setup) -> Set {
-    let new = state_of(line);
-    let state = new.state;
-    if !new.good {
-        return Set { setup, good: false };
-    }
-    Set {
-        setup: setup.with_state(state),
-        good: true,
-    }
-}
-
-// B n
-fn set_room(line: &[u8], setup: Setup) -> Set {
-    let n = read_number(line, 2, 512);
-    if !is_read(line, n.next) {
-        return Set { setup, good: false };
-    }
-    Set {
-        setup: setup.with_room(n.value),
-        good: true,
-    }
-}
-
-// A line that sets something, by its letter.
-pub fn set_by(letter: u8, line: &[u8], setup: Setup, flash: &mut [u8]) -> Set {
-    match letter {
-        b'P' => set_profile(line, setup),
-        b'F' => set_flash(line, setup, flash),
-        b'Z' => set_fresh(line, setup),
-        b'S' => set_state(line, setup),
-        _ => set_room(line, setup),
+        last: Last {
+            len: n[5],
+            bytes: reply,
+        },
     }
 }

@@ -1,121 +1,103 @@
-// The lines of board calls: R and I.
-use crate::answers::put_answer;
-use case_setup::fields::UNTOUCHED;
+// The lines of board calls, R and I, and their answer: number, reply, state and flash.
+use answer::Answer;
+use case_setup::answers::UNTOUCHED;
+use case_setup::answers::put_end;
+use case_setup::answers::put_hex;
+use case_setup::answers::put_letter;
+use case_setup::answers::put_number;
+use case_setup::answers::put_numbers;
+use case_setup::answers::untouched;
+use case_setup::fields::Fields;
 use case_setup::setup::Setup;
 use case_setup::setup::byte;
+use libc::STDOUT_FILENO;
+use numbers::board_number;
+use numbers::reply_length;
+use rules::kinds::Address;
 use state::State;
+use text::hash::fnv1a;
+use text::part::first;
 use text::part::within;
-use text::read::is_read;
-use text::read::read_hex;
-use text::read::read_number;
 
-// The state after a line, the place after its answer in the output, and whether the line was good.
-pub struct Called {
-    pub state: State,
-    pub to: usize,
-    pub good: bool,
-}
-
-// A bad line.
-fn not_called(state: State, at: usize) -> Called {
-    Called {
-        state,
-        to: at,
-        good: false,
+// 256 is the default range.
+fn own(address: Address) -> usize {
+    match address {
+        Address::DefaultRange => 256,
+        Address::Own(a) => a as usize,
     }
 }
 
-// A received frame, with the lent flash and the lent output.
-fn answer_frame(
-    setup: Setup,
-    address: u8,
-    frame: &[u8],
-    flash: &mut [u8],
-    reply: &mut [u8],
-    out: &mut [u8],
-    at: usize,
-) -> Called {
-    let answer = board::receive(setup.profile, setup.state, address, frame, flash, reply);
-    let state = answer.state;
-    Called {
-        state,
-        to: put_answer(out, at, b'R', answer, reply, flash),
-        good: true,
-    }
+// own running next w count waiting lastreply; of the bytes as many as a buffer holds
+fn put_state(s: State) {
+    let address = s.address;
+    let upload = s.upload;
+    let waiting = upload.waiting;
+    let last = s.last;
+    let reply = last.bytes;
+    put_numbers(
+        &[
+            own(address),
+            if s.running { 1 } else { 0 },
+            upload.next,
+            upload.held,
+            upload.count,
+        ],
+    );
+    put_hex(first(&waiting, upload.held));
+    put_hex(first(&reply, last.len));
+}
+
+// A space, and the hash of the flash.
+fn put_hash(flash: &[u8]) {
+    io::write_all(STDOUT_FILENO, b" ");
+    io::print_hex(STDOUT_FILENO, fnv1a(flash), 16);
+}
+
+// letter number reply state flashhash bufferok
+fn put_answer(letter: u8, answer: Answer, reply: &[u8; 512], room: usize, flash: &[u8]) {
+    let outcome = answer.outcome;
+    let made = reply_length(outcome);
+    put_letter(letter);
+    put_number(board_number(outcome) as usize);
+    put_hex(first(reply, made));
+    put_state(answer.state);
+    put_hash(flash);
+    put_number(untouched(first(reply, room), made));
+    put_end();
 }
 
 // R address frame
-fn receive(line: &[u8], setup: Setup, flash: &mut [u8], out: &mut [u8], at: usize) -> Called {
-    let address = read_number(line, 2, 255);
-    let mut frame = [0u8; 600];
-    let bytes = read_hex(line, address.next, &mut frame);
-    if !is_read(line, bytes.next) {
-        return not_called(setup.state, at);
-    }
+pub fn receive(f: Fields, setup: Setup, flash: &mut [u8]) -> State {
+    let n = f.numbers;
+    let frame = f.first;
     let mut reply = [UNTOUCHED; 512];
-    let n = bytes.value;
     let len = within(flash, setup.flashlen);
     let room = within(&reply, setup.room);
-    answer_frame(
-        setup,
-        byte(address.value),
-        &frame[..n],
+    let answer = board::receive(
+        setup.profile,
+        setup.state,
+        byte(n[0]),
+        first(&frame, f.firstlen),
         &mut flash[..len],
         &mut reply[..room],
-        out,
-        at,
-    )
-}
-
-// An I²C read, with the lent flash and the lent output.
-fn answer_read(
-    setup: Setup,
-    address: u8,
-    flash: &[u8],
-    reply: &mut [u8],
-    out: &mut [u8],
-    at: usize,
-) -> Called {
-    let answer = readout::read(setup.profile, setup.state, address, flash, reply);
-    let state = answer.state;
-    Called {
-        state,
-        to: put_answer(out, at, b'I', answer, reply, flash),
-        good: true,
-    }
+    );
+    put_answer(b'R', answer, &reply, room, first(flash, len));
+    answer.state
 }
 
 // I address
-fn read(line: &[u8], setup: Setup, flash: &[u8], out: &mut [u8], at: usize) -> Called {
-    let address = read_number(line, 2, 255);
-    if !is_read(line, address.next) {
-        return not_called(setup.state, at);
-    }
+pub fn read(f: Fields, setup: Setup, flash: &[u8]) -> State {
+    let n = f.numbers;
     let mut reply = [UNTOUCHED; 512];
-    let len = within(flash, setup.flashlen);
     let room = within(&reply, setup.room);
-    answer_read(
-        setup,
-        byte(address.value),
-        &flash[..len],
+    let lent = first(flash, setup.flashlen);
+    let answer = readout::read(
+        setup.profile,
+        setup.state,
+        byte(n[0]),
+        lent,
         &mut reply[..room],
-        out,
-        at,
-    )
-}
-
-// A board call, by its letter.
-pub fn call_board(
-    letter: u8,
-    line: &[u8],
-    setup: Setup,
-    flash: &mut [u8],
-    out: &mut [u8],
-    at: usize,
-) -> Called {
-    if letter == b'R' {
-        receive(line, setup, flash, out, at)
-    } else {
-        read(line, setup, flash, out, at)
-    }
+    );
+    put_answer(b'I', answer, &reply, room, lent);
+    answer.state
 }

@@ -1,39 +1,44 @@
 // Answers the calls of a case file with the library: tests/second/FORMAT.md says what the lines mean and what is written for each call.
 // The file is read from standard input, the answers go to standard output. A bad line changes nothing and is told on standard error by its
 // number. A line has at most 65,535 bytes; a longer one ends the run.
-mod answers;
 mod boards;
-mod lines;
 
-use crate::lines::Said;
-use crate::lines::carry_out;
+use case_masters::call_master;
+use case_setup::fields::Fields;
+use case_setup::fields::fields_of;
 use case_setup::setup::Setup;
+use case_setup::setup::byte;
 use libc::STDERR_FILENO;
 use libc::STDIN_FILENO;
-use libc::STDOUT_FILENO;
 use text::part::first;
-use text::read::next_line;
+use text::read::next_field;
 ghost use Prim.Native.Nat.{_≤_};
 ghost use lib.ListN.{length};
-ghost use Rattle.io.specs.Counts.{Counts};
 
-// Where a run is: the setup, the number of the line, and how many bytes of answers wait in the output.
-struct Place {
-    setup: Setup,
-    line: u64,
-    put: usize,
+// What is to be said of a line.
+enum Said {
+    Good,
+    // nothing to say: an empty line, or one that begins with `#`
+    Nothing,
+    // no letter that begins a line
+    Unknown,
+    // its fields are not those of its letter
+    Wrong,
+    // no profile or no flash before it
+    Early,
+    // the line after it does not fit the input
+    Long,
 }
 
-// A place, and how far the input was carried out.
-struct Progress {
-    place: Place,
-    at: usize,
+// A line that was read: how many bytes it has, and whether the file may have another.
+struct Read {
+    len: usize,
+    more: bool,
 }
 
-// A place, how many bytes of a line without its end are kept, and whether there is more to read.
+// The setup after a line, and whether there is more to read.
 struct Reached {
-    place: Place,
-    kept: usize,
+    setup: Setup,
     more: bool,
 }
 
@@ -42,7 +47,7 @@ fn tell(line: u64, said: Said) {
     io::write_all(STDERR_FILENO, b"line ");
     io::print_decimal(STDERR_FILENO, line);
     match said {
-        Said::Good => io::write_all(STDERR_FILENO, b" is good\n"),
+        Said::Good | Said::Nothing => io::write_all(STDERR_FILENO, b" is good\n"),
         Said::Unknown => io::write_all(STDERR_FILENO, b": no letter that begins a line\n"),
         Said::Wrong => io::write_all(STDERR_FILENO, b": its fields are not those of its letter\n"),
         Said::Early => io::write_all(
@@ -57,132 +62,136 @@ fn tell(line: u64, said: Said) {
     ;
 }
 
-// Writes out the answers that wait in the output.
-fn write_out(out: &[u8], n: usize) {
-    if out.len() < n {
-        io::write_all(STDERR_FILENO, b"an answer did not fit the output\n");
-    }
-    io::write_all(STDOUT_FILENO, first(out, n));
-}
-
-// How many bytes wait: once the output is half full they are written out. A line of it is far shorter than the other half.
-fn flushed(out: &[u8], n: usize) -> usize {
-    if n < out.len() / 2 {
-        return n;
-    }
-    write_out(out, n);
-    0
-}
-
-// One line, told if it is bad.
-fn one_line(line: &[u8], place: Place, flash: &mut [u8], out: &mut [u8]) -> Place {
-    let number = std::num::wrapping_add_u64(place.line, 1);
-    let step = carry_out(line, place.setup, flash, out, place.put);
-    let said = step.said;
-    let setup = step.setup;
-    match said {
-        Said::Good => (),
-        _ => tell(number, said),
-    }
-    ;
-    Place {
-        setup,
-        line: number,
-        put: flushed(out, step.to),
-    }
-}
-
-// Every line of the input that has its end, and the place after the last of them.
-fn whole_lines(input: &[u8], place: Place, flash: &mut [u8], out: &mut [u8]) -> Progress
-    ensures { λ r. ⌜ r .at ≤ length (now (input .entry)) ⌝ }
-{
-    let mut here = place;
-    let mut at = 0;
-    let mut end = next_line(input, at);
-    while end < input.len() {
-        here = one_line(&input[at..end], here, flash, out);
-        at = end + 1;
-        end = next_line(input, at);
-    }
-    Progress { place: here, at }
-}
-
-// Reads on after the bytes that are kept, and answers how many there are now.
-fn filled(input: &mut [u8], kept: usize) -> usize
-    requires { ⌜ kept ≤ length (now input) ⌝ }
-    ensures { λ r. ⌜ Counts r (now (input .exit)) ⌝ }
-{
-    kept + io::read_full(STDIN_FILENO, &mut input[kept..])
-}
-
-// Moves the bytes from a place on to the start, and answers how many they are.
-fn keep(input: &mut [u8], at: usize) -> usize
-    requires { ⌜ at ≤ length (now input) ⌝ }
-    ensures { λ r. ⌜ r ≤ length (now (input .entry)) ⌝ }
-{
-    let n = input.len() - at;
+// Byte i of a flash is a * i + b, modulo 256.
+fn fill(flash: &mut [u8], len: usize, a: usize, b: usize) {
+    let step = a % 256;
+    let mut v = b % 256;
     let mut i = 0;
-    while i < n {
-        input[i] = input[at + i];
+    while i < flash.len() && i < len {
+        flash[i] = byte(v);
+        v = (v + step) % 256;
         i += 1;
     }
-    n
 }
 
-// Reads as much as the input holds, and carries out the lines that have their end, at the end of the file the last one too.
-fn turn(input: &mut [u8], kept: usize, place: Place, flash: &mut [u8], out: &mut [u8]) -> Reached
-    requires { ⌜ kept ≤ length (now input) ⌝ }
-    ensures { λ r. ⌜ r .kept ≤ length (now (input .entry)) ⌝ }
+// A good line: the setup after it.
+fn act(letter: u8, f: Fields, setup: Setup, flash: &mut [u8]) -> Setup {
+    let n = f.numbers;
+    match letter {
+        b'R' => setup.with_state(boards::receive(f, setup, flash)),
+        b'I' => setup.with_state(boards::read(f, setup, flash)),
+        b'E' | b'D' | b'T' | b'V' => {
+            call_master(letter, f, setup.room);
+            setup
+        }
+        b'F' => {
+            fill(flash, n[0], n[1], n[2]);
+            setup.after(letter, f)
+        }
+        _ => setup.after(letter, f),
+    }
+}
+
+// Whether a letter begins a line.
+fn is_letter(letter: u8) -> bool {
+    match letter {
+        b'P' | b'F' | b'Z' | b'S' | b'B' | b'R' | b'I' | b'E' | b'D' | b'T' | b'V' => true,
+        _ => false,
+    }
+}
+
+// The letter of a line. An empty line says as little as one that begins with `#`.
+fn letter_of(line: &[u8]) -> u8 {
+    if line.len() == 0 { b'#' } else { line[0] }
+}
+
+// What is to be said of a line with this letter, whose fields are good or not.
+fn judge(line: &[u8], letter: u8, good: bool, setup: Setup) -> Said {
+    if letter == b'#' {
+        return Said::Nothing;
+    }
+    if next_field(line, 0) != 1 || !is_letter(letter) {
+        return Said::Unknown;
+    }
+    if (letter == b'R' || letter == b'I') && !(setup.profiled && setup.flashed) {
+        return Said::Early;
+    }
+    if good { Said::Good } else { Said::Wrong }
+}
+
+// Any line, told if it is bad.
+fn one_line(number: u64, line: &[u8], setup: Setup, flash: &mut [u8]) -> Setup {
+    let letter = letter_of(line);
+    let f = fields_of(letter, line);
+    let said = judge(line, letter, f.good, setup);
+    match said {
+        Said::Good => act(letter, f, setup, flash),
+        Said::Nothing => setup,
+        _ => {
+            tell(number, said);
+            setup
+        }
+    }
+}
+
+fn wide(b: u8) -> usize {
+    b as usize
+}
+
+// The next byte of the input; 256 at its end.
+fn next_byte() -> usize {
+    let mut one = [0u8; 1];
+    if io::read_full(STDIN_FILENO, &mut one) == 0 {
+        return 256;
+    }
+    wide(one[0])
+}
+
+// Reads a line without its end. One that fills the lent bytes is too long.
+fn read_line(line: &mut [u8]) -> Read
+    ensures { λ r. ⌜ r .len ≤ length (now (line .entry)) ⌝ }
 {
-    let end = filled(input, kept);
-    let done = whole_lines(&input[..end], place, flash, out);
-    let after = done.place;
-    let at = done.at;
-    if end < input.len() {
-        return Reached {
-            place: one_line(&input[at..end], after, flash, out),
-            kept: 0,
-            more: false,
-        };
+    let mut len = 0;
+    while len < line.len() {
+        let b = next_byte();
+        if b == 10 || b == 256 {
+            return Read { len, more: b == 10 };
+        }
+        line[len] = byte(b);
+        len += 1;
     }
-    let left = keep(input, at);
-    if left == input.len() {
-        tell(after.line, Said::Long);
-        return Reached {
-            place: after,
-            kept: 0,
-            more: false,
-        };
+    Read { len, more: false }
+}
+
+// The next line, after so many.
+fn turn(number: u64, line: &mut [u8], setup: Setup, flash: &mut [u8]) -> Reached {
+    let got = read_line(line);
+    if got.len == line.len() {
+        tell(number, Said::Long);
+        return Reached { setup, more: false };
     }
+    let next = std::num::wrapping_add_u64(number, 1);
     Reached {
-        place: after,
-        kept: left,
-        more: true,
+        setup: one_line(next, first(line, got.len), setup, flash),
+        more: got.more,
     }
 }
 
-// All lines. Nothing says that the input ends, so the turns are counted down from a number that no run uses up.
-fn run(input: &mut [u8], flash: &mut [u8], out: &mut [u8]) {
+// All lines. Nothing says that the input ends, so they are counted up to a number that no file reaches.
+fn run(line: &mut [u8], flash: &mut [u8]) {
     let mut now = Reached {
-        place: Place {
-            setup: Setup::start(),
-            line: 0,
-            put: 0,
-        },
-        kept: 0,
+        setup: Setup::start(),
         more: true,
     };
-    let mut turns = u64::MAX;
-    while turns > 0 && now.more {
-        now = turn(input, now.kept, now.place, flash, out);
-        turns -= 1;
+    let mut number: u64 = 0;
+    while number < u64::MAX && now.more {
+        now = turn(number, line, now.setup, flash);
+        number += 1;
     }
-    write_out(out, now.place.put);
 }
 
 fn main() {
-    let mut input = io::large_buffer();
+    let mut line = io::large_buffer();
     let mut flash = [0u8; 131072];
-    let mut out = io::large_buffer();
-    run(&mut input, &mut flash, &mut out);
+    run(&mut line, &mut flash);
 }

@@ -18,7 +18,8 @@ use Rattle.state_bytes.specs.StateBytes.{stateAt, stateWritten}
 use Rattle.answer.specs.declared.Answer.{Answer}
 use Rattle.answer.specs.Answered.{CallEffect, callEffect, expectedEffect, Answered}
 use Rattle.fields.specs.Fields.{clipped}
-use Rattle.childbus_board.specs.BoardBytes.{normalized, ReceivedLeft, callOf, receivedLeft, ReadLeft, readLeft}
+use Rattle.normalize.specs.Normalized.{normalized}
+use Rattle.childbus_board.specs.BoardBytes.{ReceivedLeft, callOf, receivedLeft, ReadLeft, readLeft}
 use Rattle.childbus_board.proofs.ForeignLaws.{received-clipped, readOut-clipped}
 
 -- the calls

@@ -24,8 +24,9 @@ use Rattle.state_bytes.specs.StateBytes.{stateSize, stateHeld, stateAt, stateWr
 use Rattle.state_bytes.specs.BothWays.{StateFits}
 use Rattle.fields.proofs.Laws.{&&-true}
 use Rattle.state_bytes.proofs.Laws.{state-fits, state-read, state-malformed}
-use Rattle.childbus_board.specs.BoardBytes.{normalized, freshLeft, callOf, receivedLeft}
-use Rattle.childbus_board.proofs.NormalizeLaws.{view-normalized}
+use Rattle.normalize.specs.Normalized.{normalized}
+use Rattle.childbus_board.specs.BoardBytes.{freshLeft, callOf, receivedLeft}
+use Rattle.normalize.proofs.NormalizeLaws.{view-normalized}
 
 -- a well-formed state, normalized, written and read again
 module _ (p : paper.Profile) (s : rules.State) (range : inRange p ≡ true) (formed : wellFormed p s ≡ true) where

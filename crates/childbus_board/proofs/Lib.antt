@@ -1,5 +1,4 @@
 -- Laws of the C boundary, for the board.
-pub mod NormalizeLaws
 pub mod ForeignLaws
 pub mod BoardLaws
 pub mod KeptLaws

@@ -1,10 +1,8 @@
 // The C boundary of a board: the fresh state, a received frame, an I²C read, as include/childbus.h declares them, over byte slices and
 // numbers. A slice is a pointer and a length to C, a `&mut` number the place of a single result. No call has a `requires`: any bytes of any
 // length get the answer that specs/ fixes.
-mod normalize;
-
-use crate::normalize::normalize;
 use fields::clip;
+use normalize::normalize;
 use numbers::board_number;
 use numbers::reply_length;
 use state::State;
@@ -20,7 +18,7 @@ pub extern "C" fn childbus_fresh(state: &mut [u8]) -> u32
     if state.len() < state_bytes::STATE_BYTES {
         return 4;
     }
-    state_bytes::state_to(State::fresh(), state);
+    state_writer::state_to(State::fresh(), state);
     0
 }
 
@@ -50,7 +48,7 @@ pub extern "C" fn childbus_receive(
     if 2 <= number {
         return number;
     }
-    state_bytes::state_to(normalize(left), state);
+    state_writer::state_to(normalize(left), state);
     number
 }
 

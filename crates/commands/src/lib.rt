@@ -1,46 +1,16 @@
 // Document 01, "Commands": a well-framed command by its code. Unserved, wrong argument length, then the command's own rule.
+use dispatch::perform;
 use profile::Profile;
 use response::COMMAND_NOT_SUPPORTED;
 use response::Done;
 use response::INVALID_ARGUMENTS;
 use state::State;
 ghost use mathlib.Core.Path.{_≡_};
-ghost use mathlib.Core.Bool.{true};
 ghost use lib.ListN.{length};
-ghost use Rattle.rules.specs.Commands.{served, lengthAllowed, performed, executed};
+ghost use Rattle.rules.specs.Commands.{executed};
 ghost use Rattle.state.specs.View.{view};
 ghost use Rattle.profile.specs.View.{profileOf};
 ghost use Rattle.response.specs.Done.{commandEffect, ruledCommand, Serving};
-
-// The command's own rule. The last arm is 0x0c, the longest frame.
-fn perform(
-    p: Profile,
-    s: State,
-    code: usize,
-    args: &[u8],
-    flash: &mut [u8],
-    out: &mut [u8],
-    at: usize,
-) -> Done
-    requires { ⌜ Serving p s (length (now flash)) (length (now out)) at ⌝ }
-    requires { ⌜ lengthAllowed code (length (now args)) ≡ true ⌝ }
-    ensures { λ r.
-        ⌜ commandEffect r (now (flash .exit)) (now (out .exit))
-        ≡ ruledCommand (performed (profileOf p) (view s) code (now (args .entry)) (now (flash .entry))) (now (out .entry)) at ⌝ }
-{
-    match code {
-        0x00 => queries::version(s, out, at),
-        0x01 => updates::set_address(p, s, args, out, at),
-        0x03 => queries::hardware_info(p, s, out, at),
-        0x04 => queries::serial(p, s, out, at),
-        0x05 => updates::start(s),
-        0x06 => upload_commands::write(p, s, args, flash, out, at),
-        0x07 => upload_commands::finalize(p, s, flash, out, at),
-        0x08 => read_query::read(p, s, args, &flash[..], out, at),
-        0x09 => queries::revision(p, s, out, at),
-        _ => response::reply_number(s, p.longest, out, at),
-    }
-}
 
 // A command with its arguments, its results laid into the lent buffer from a place on.
 pub fn execute(

@@ -1,26 +1,10 @@
 // The check sums of document 01, "Frames and check sums": CRC-8, CRC-16, and whether a frame ends in its own.
-// Only the two byte steps know how a byte is taken in.
+// `crc_steps` takes a byte in.
+use crc_steps::crc8_byte;
+use crc_steps::crc16_byte;
 use rules::kinds::Bus;
 ghost use mathlib.Core.Path.{_≡_};
-ghost use Rattle.rules.specs.CheckSums.{bit, byte, crc, crc8, crc16, sumRight};
-
-// The CRC-8 register one bit further.
-fn crc8_bit(r: u8) -> u8
-    ensures { λ v. ⌜ v ≡ bit crc8 r ⌝ }
-{
-    if 128 <= r { (r << 1) ^ 0x07 } else { r << 1 }
-}
-
-// The CRC-8 register one byte further.
-fn crc8_byte(r: u8, b: u8) -> u8
-    ensures { λ v. ⌜ v ≡ byte crc8 r b ⌝ }
-{
-    let mut v = r ^ b;
-    for k in 0usize..8 {
-        v = crc8_bit(v);
-    }
-    v
-}
+ghost use Rattle.rules.specs.CheckSums.{crc, crc8, crc16, sumRight};
 
 // The CRC-8 of the bytes.
 pub fn crc8(s: &[u8]) -> u8
@@ -31,28 +15,6 @@ pub fn crc8(s: &[u8]) -> u8
     while i < s.len() {
         v = crc8_byte(v, s[i]);
         i += 1;
-    }
-    v
-}
-
-// The CRC-16 register one bit further.
-fn crc16_bit(r: u16) -> u16
-    ensures { λ v. ⌜ v ≡ bit crc16 r ⌝ }
-{
-    if r % 2 == 1 {
-        (r >> 1) ^ 0xA001
-    } else {
-        r >> 1
-    }
-}
-
-// The CRC-16 register one byte further.
-fn crc16_byte(r: u16, b: u8) -> u16
-    ensures { λ v. ⌜ v ≡ byte crc16 r b ⌝ }
-{
-    let mut v = r ^ (b as u16);
-    for k in 0usize..8 {
-        v = crc16_bit(v);
     }
     v
 }

@@ -1,4 +1,3 @@
 // Frames as bytes, for board and master.
 pub mod reply;
 pub mod seal;
-pub mod sizes;

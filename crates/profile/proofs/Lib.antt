@@ -1,2 +1,2 @@
--- Laws of the check that crates above cite.
+-- A law of tests, which crates above cite too.
 pub mod Laws

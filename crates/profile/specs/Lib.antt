@@ -1,2 +1,2 @@
--- What a profile of the code says, and what a check of a call answers.
+-- What a profile of the code says.
 pub mod View

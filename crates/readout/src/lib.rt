@@ -2,8 +2,8 @@
 // It takes any bytes at all.
 use answer::Answer;
 use answer::no_reply;
-use profile::Check;
 use profile::Profile;
+use refusal::Check;
 use rules::kinds::Bus;
 use rules::kinds::Outcome;
 use state::State;
@@ -43,7 +43,7 @@ pub fn read(p: Profile, s: State, address: u8, flash: &[u8], out: &mut [u8]) -> 
         ⌜ Answered s r (now (flash .entry)) (now (out .exit)) (now (out .entry))
         (readOut (profileOf p) (view s) address (now (flash .entry)) (length (now (out .entry)))) ⌝ }
 {
-    let check = profile::refuse(p, s, flash.len(), out.len());
+    let check = refusal::refuse(p, s, flash.len(), out.len());
     if let Check::Refused(outcome) = check {
         return Answer { outcome, state: s };
     }

@@ -27,7 +27,7 @@ pub fn request_length(bus: Bus, request: Request, n: usize) -> usize
     requires { ⌜ n < 2 ^ 63 ⌝ }
     ensures { λ r. ⌜ r ≡ requestLength bus request n ⌝ }
 {
-    let shortest = frame::sizes::shortest_request(bus);
+    let shortest = frame_sizes::shortest_request(bus);
     match request {
         Request::Plain(_) => shortest,
         Request::SetAddress {

@@ -26,7 +26,7 @@ fn command_wrong(bus: Bus, longest: usize, destination: usize, code: usize, n: u
     if !arguments::length_allowed(code, n) {
         return true;
     }
-    if longest < frame::sizes::shortest_request(bus) + n {
+    if longest < frame_sizes::shortest_request(bus) + n {
         return true;
     }
     destination == 0 || address_over(bus, destination)
@@ -44,7 +44,7 @@ fn read_wrong(bus: Bus, longest: usize, address: usize, length: usize) -> bool
     requires { ⌜ 32 ≤ longest ⌝ }
     ensures { λ r. ⌜ r ≡ readWrong bus longest address length ⌝ }
 {
-    65535 < address || longest - frame::sizes::shortest_reply(bus) < length
+    65535 < address || longest - frame_sizes::shortest_reply(bus) < length
 }
 
 // A request with n data bytes. The general calls have no arguments.

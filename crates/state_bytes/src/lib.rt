@@ -1,7 +1,6 @@
 // The state in 340 bytes, as it crosses the C boundary: include/childbus.h has the layout as a table, specs/ as definitions.
 // Bytes that hold no state read as a malformed state, so that the board's own test answers them.
 use fields::four_at;
-use fields::store_four;
 use rules::kinds::Address;
 use state::Last;
 use state::State;
@@ -9,11 +8,9 @@ use state::Upload;
 ghost use mathlib.Core.Path.{_≡_};
 ghost use Prim.Native.Nat.{_≤_};
 ghost use lib.ListN.{length};
-ghost use Rattle.rules.specs.Numbers.{laid};
 ghost use Rattle.fields.specs.Fields.{part};
 ghost use Rattle.state_bytes.specs.BothWays.{BothWays};
-ghost use Rattle.state_bytes.specs.StateBytes.{stateSize, stateSaid, noState, stateAt, addressOf, kindByte, ownByte, runningByte};
-ghost use Rattle.state_bytes.specs.StateBytes.{headBytes, stateWritten};
+ghost use Rattle.state_bytes.specs.StateBytes.{stateSize, stateSaid, noState, stateAt, addressOf};
 
 // How many bytes a state takes.
 pub const STATE_BYTES: usize = 340;
@@ -106,63 +103,6 @@ pub fn state_from(b: &[u8]) -> State
         return no_state();
     }
     state_said(b)
-}
-
-fn kind_byte(a: Address) -> u8
-    ensures { λ r. ⌜ r ≡ kindByte a ⌝ }
-{
-    match a {
-        Address::DefaultRange => 0,
-        Address::Own(_) => 1,
-    }
-}
-
-fn own_byte(a: Address) -> u8
-    ensures { λ r. ⌜ r ≡ ownByte a ⌝ }
-{
-    match a {
-        Address::DefaultRange => 0,
-        Address::Own(own) => own,
-    }
-}
-
-fn running_byte(running: bool) -> u8
-    ensures { λ r. ⌜ r ≡ runningByte running ⌝ }
-{
-    if running { 1 } else { 0 }
-}
-
-// Writes all of a state but its two buffers.
-fn store_head(s: State, b: &mut [u8])
-    requires { ⌜ stateSize ≤ length (now b) ⌝ }
-    ensures { λ _. ⌜ now (b .exit) ≡ laid (headBytes s) (now (b .entry)) ⌝ }
-{
-    let address = s.address;
-    let flags = [
-        kind_byte(address),
-        own_byte(address),
-        running_byte(s.running),
-        0,
-    ];
-    flash::store(b, 0, &flags);
-    store_four(b, 4, s.upload.next);
-    store_four(b, 8, s.upload.held);
-    store_four(b, 12, s.upload.count);
-    store_four(b, 16, s.last.len);
-}
-
-// Writes a state into the first bytes of a buffer; one that is too short stays as it was.
-pub fn state_to(s: State, b: &mut [u8])
-    ensures { λ _. ⌜ now (b .exit) ≡ stateWritten s (now (b .entry)) ⌝ }
-{
-    if b.len() < STATE_BYTES {
-        return;
-    }
-    store_head(s, b);
-    let waiting = s.upload.waiting;
-    flash::store(b, 20, &waiting);
-    let bytes = s.last.bytes;
-    flash::store(b, 84, &bytes);
 }
 
 // The layout loses nothing that a board can hold.

@@ -35,8 +35,13 @@ fn write_all_sums(input: &[u8]) {
     }
 }
 
+// Reads as much as the lent bytes hold, and writes the lines.
+fn run(input: &mut [u8]) {
+    let n = io::read_full(STDIN_FILENO, input);
+    write_all_sums(&input[..n]);
+}
+
 fn main() {
     let mut input = [0u8; 400000];
-    let n = io::read_full(STDIN_FILENO, &mut input);
-    write_all_sums(&input[..n]);
+    run(&mut input);
 }

@@ -1,4 +1,3 @@
--- What reading and writing text mean, and the hash.
+-- What reading text means, and the hash.
 pub mod Hash
 pub mod Read
-pub mod Write

@@ -1,4 +1,4 @@
--- Lines and fields of text, and what a field says.
+-- The fields of a line, and what a field says.
 use mathlib.Core.Path.{_≡_}
 use mathlib.Core.Bool.{Bool, true, false, cond, not, _&&_}
 use mathlib.Core.List.{List, [], _∷_}
@@ -10,9 +10,6 @@ use Rattle.io.specs.Counts.{Counts}
 use Rattle.text.specs.declared.read.Parsed.{Parsed}
 use Rattle.text.specs.declared.read.Parsed.the-variants.{Value, Wrong}
 use Rattle.text.specs.declared.read.Field.{Field}
-
-abbrev pub lineFeed : ℕ
-lineFeed = 10
 
 abbrev pub space : ℕ
 space = 32

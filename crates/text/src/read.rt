@@ -1,11 +1,11 @@
-// Reading: lines end in a line feed, and the fields of a line are separated by one space.
+// Reading: the fields of a line are separated by one space.
 // A place is an index into the slice. Reading a field leaves the place of the next one: one past the end of the line after its last field,
 // and two past it after a field that is wrong. A field there is wrong again, so a line is asked once, at its end, by `is_read`.
 ghost use mathlib.Core.Path.{_≡_};
 ghost use Prim.Native.Nat.{_/_, _^_, _<_, _≤_};
 ghost use lib.ListN.{length};
 ghost use lib.Seq.{sets};
-ghost use Rattle.text.specs.Read.{lineFeed, space, Found, isRead, Digit, numberOf, fieldOf, readNumber, NumbersRead};
+ghost use Rattle.text.specs.Read.{space, Found, isRead, Digit, numberOf, fieldOf, readNumber, NumbersRead};
 ghost use Rattle.text.specs.Read.{hexRight, pairValue, hexBytes, isDash, BytesRead, HexRead};
 
 // What a whole field says.
@@ -32,13 +32,6 @@ fn find(s: &[u8], at: usize, b: u8) -> usize
         i += 1;
     }
     i
-}
-
-// The end of the line that begins at a place.
-pub fn next_line(s: &[u8], at: usize) -> usize
-    ensures { λ r. ⌜ Found lineFeed (now (s .entry)) at r ⌝ }
-{
-    find(s, at, b'\n')
 }
 
 // The end of the field that begins at a place.

@@ -1,3 +1,2 @@
 -- Laws of an upload: a part of accepted bytes, and a commit, by what the code holds.
-pub mod Laws
 pub mod Turns

@@ -15,9 +15,9 @@ use Rattle.state.specs.View.{page}
 use Rattle.state.proofs.Laws.{HeldFacts, upload-held}
 use Rattle.profile.specs.declared.Profile.{Profile}
 use Rattle.profile.specs.View.{profileOf}
-use Rattle.upload.specs.Progress.{progressOf, Ready, Part, CommitCounted}
-use Rattle.upload.proofs.Laws.{takenAll-appended, takenAll-committed, used-overlay, ready-bounds, emptied, fitting}
-use Rattle.upload.proofs.Laws.{committed-counted, kept-upload, ready-taken}
+use Rattle.commit.specs.Progress.{progressOf, Ready, Part, CommitCounted}
+use Rattle.commit.proofs.Laws.{takenAll-appended, takenAll-committed, used-overlay, ready-bounds, emptied, fitting}
+use Rattle.commit.proofs.Laws.{committed-counted, kept-upload, ready-taken}
 
 -- u and d are what the first i bytes make of u₀ and d₀
 pub record Reached (p : Profile) (u₀ : Upload) (d₀ bytes : List ℕ) (i : ℕ) (u : Upload) (d : List ℕ) : Type 0 where

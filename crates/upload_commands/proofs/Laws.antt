@@ -18,7 +18,7 @@ use Rattle.state.specs.declared.Upload.{Upload}
 use Rattle.state.specs.View.{page, uploadOf}
 use Rattle.profile.specs.declared.Profile.{Profile}
 use Rattle.response.specs.Done.{Serving}
-use Rattle.upload.specs.Progress.{Ready, Formed}
+use Rattle.commit.specs.Progress.{Ready, Formed}
 
 -- all of the data behind a write's address
 pub take-rest : (args : List ℕ) (k : ℕ) → take (length args - k) (drop k args) ≡ drop k args

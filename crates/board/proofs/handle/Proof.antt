@@ -1,7 +1,7 @@
 -- `board::handle` meets its contract: each arm is the rules' case for that verdict.
-use Rattle.board.proofs.ServeLaws.{command-long}
+use Rattle.board.proofs.HandleLaws.{command-long}
 use Rattle.rules.specs.Board.{handled}
-use mathlib.Core.Path.{_≡_, refl, sym, ap, _∙_}
+use mathlib.Core.Path.{sym, _∙_}
 use borrow.Author.Needs.{needs}
 use Rattle.board.proofs.handle.Statement.{statement}
 use Rattle.board.proofs.handle.Tie as tie

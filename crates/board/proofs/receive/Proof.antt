@@ -1,18 +1,14 @@
 -- `board::receive` meets its contract: refused by the first of 2 to 5 that applies with all untouched, else handled.
-use Rattle.board.proofs.ServeLaws.{handled-number}
+use Rattle.board.proofs.HandleLaws.{handled-number}
 use Rattle.answer.proofs.AnsweredLaws.{answered}
-use Rattle.profile.proofs.Laws.{check-passed, check-refused}
+use Rattle.refusal.proofs.Laws.{check-passed, check-refused}
 use Rattle.profile.specs.View.{profileOf}
 use Rattle.state.specs.View.{view}
 use Rattle.laws.proofs.BoardLaws.{received-handled, received-refused}
 use Rattle.laws.proofs.StateLaws.{refusal-unrefused}
-use Rattle.rules.specs.Numbers.{refusal}
-use Rattle.rules.specs.Board.{received}
 use borrow.Author.Tests.{eqb-false}
 use lib.ListN.{length}
-use Prim.Native.Nat.{ℕ, _≤_}
-use native.Mathlib.Omega.{arith}
-use mathlib.Core.Path.{_≡_, refl, sym, ap, _∙_}
+use mathlib.Core.Path.{refl, sym, _∙_}
 use borrow.Author.Needs.{needs}
 use Rattle.board.proofs.receive.Statement.{statement}
 use Rattle.board.proofs.receive.Tie as tie

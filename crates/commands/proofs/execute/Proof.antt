@@ -1,8 +1,8 @@
 -- `commands::execute` meets its contract: its tests are the definition's, in its order.
 use Rattle.response.proofs.Laws.{few-fit}
-use Rattle.rules.specs.Commands.{served, lengthAllowed, executed}
+use Rattle.rules.specs.Commands.{served, executed}
 use borrow.Author.Tests.{not-true, not-false}
-use mathlib.Core.Path.{_≡_, refl, sym, ap, _∙_}
+use mathlib.Core.Path.{sym, _∙_}
 use native.Mathlib.Omega.{arith}
 use borrow.Author.Needs.{needs}
 use Rattle.commands.proofs.execute.Statement.{statement}

@@ -3,7 +3,7 @@ use Rattle.laws.proofs.StateLaws.{Unrefused}
 use Rattle.rules.specs.State.{used}
 use Rattle.rules.specs.Numbers.{laid, refusal}
 use Rattle.answer.proofs.AnsweredLaws.{answered}
-use Rattle.profile.proofs.Laws.{check-passed, check-refused}
+use Rattle.refusal.proofs.Laws.{check-passed, check-refused}
 use Rattle.profile.specs.View.{profileOf}
 use Rattle.state.specs.View.{view}
 use Rattle.rules.specs.Board.{readAnswered, nothing}

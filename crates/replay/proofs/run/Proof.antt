@@ -6,9 +6,9 @@ use native.Mathlib.Omega.{arith}
 use lib.ListN.{length, take, drop, getD, length-drop}
 use borrow.Author.Needs.{needs}
 use borrow.Author.Tests.{le-leb, lt-leb}
-use Rattle.replay.specs.Script.{head, inputBy, frameLength}
-use Rattle.replay.proofs.Scripts.{input-at}
-use Rattle.replay.proofs.Following.{Reached, reached-none, reached-record, reached-end}
+use Rattle.script.specs.Script.{head, inputBy, frameLength}
+use Rattle.script.proofs.Scripts.{input-at}
+use Rattle.script.proofs.Following.{Reached, reached-none, reached-record, reached-end}
 use Rattle.replay.proofs.run.Statement.{statement}
 use Rattle.replay.proofs.run.Tie as tie
 

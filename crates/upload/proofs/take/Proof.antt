@@ -5,7 +5,7 @@ use native.Mathlib.Omega.{arith}
 use lib.ListN.{length, length-take, length-drop}
 use lib.Seq.{take-all}
 use borrow.Author.Needs.{needs}
-use Rattle.upload.proofs.Laws.{taken-formed}
+use Rattle.commit.proofs.Laws.{taken-formed}
 use Rattle.upload.proofs.Turns.{Reached, reached-none, turn-appended, turn-committed}
 use Rattle.upload.proofs.take.Statement.{statement}
 use Rattle.upload.proofs.take.Tie as tie

@@ -1,4 +1,4 @@
--- `upload_commands::finalize` meets its contract, by those of `upload::finalize` and `response::reply_number`.
+-- `upload_commands::finalize` meets its contract, by those of `finalize::finalize` and `response::reply_number`.
 use Rattle.upload_commands.proofs.Laws.{ready, upload-formed, count-most}
 use Rattle.response.proofs.Laws.{few-fit}
 use Rattle.rules.specs.Commands.{finished}

@@ -3,16 +3,15 @@ use Rattle.upload_commands.proofs.Laws.{take-rest, ready, upload-formed
 use Rattle.rules.specs.Commands.{accepted, restarted, written}
 use borrow.Author.Tests.{not-true, not-false}
 use Rattle.response.proofs.Laws.{few-fit}
-use Rattle.upload.specs.Progress.{progressOf}
+use Rattle.commit.specs.Progress.{progressOf}
 use Rattle.profile.specs.View.{profileOf}
 use Rattle.state.specs.View.{page, uploadOf}
 use Rattle.rules.specs.Frames.{numberAt}
-use Rattle.rules.specs.Commit.{Progress, takenAll}
-use lib.ListN.{length, take, drop, getD, length-take, length-drop}
-use Prim.Native.Nat.{ℕ, _+_, _-_, _*_, _≤_}
-use mathlib.Core.List.{List}
+use Rattle.rules.specs.Commit.{takenAll}
+use lib.ListN.{length, take, drop, length-take, length-drop}
+use Prim.Native.Nat.{_+_, _-_, _*_}
 use mathlib.Core.Bool.{true, false}
-use mathlib.Core.Path.{_≡_, refl, sym, ap, _∙_}
+use mathlib.Core.Path.{_≡_, sym, ap, _∙_}
 use native.Mathlib.Omega.{arith}
 use borrow.Author.Needs.{needs}
 use Rattle.upload_commands.proofs.write.Statement.{statement}

@@ -1,0 +1,30 @@
+// Which writes are accepted, and where an upload begins anew.
+use state::Upload;
+ghost use mathlib.Core.Path.{_≡_};
+ghost use Prim.Native.Nat.{_+_, _^_, _<_};
+ghost use Rattle.rules.specs.Commands.{accepted, restarted};
+ghost use Rattle.state.specs.View.{uploadOf};
+
+// A write is accepted at 0 or next if its data don't run past S, in no other case.
+pub fn accepts(size: usize, next: usize, address: usize, n: usize) -> bool
+    requires { ⌜ address + n < 2 ^ 64 ⌝ }
+    ensures { λ r. ⌜ r ≡ accepted size next address n ⌝ }
+{
+    if address == 0 {
+        return address + n <= size;
+    }
+    if address != next {
+        return false;
+    }
+    address + n <= size
+}
+
+// An accepted write at 0, even an empty one, restarts: no waiting bytes, count 0.
+pub fn restart(u: Upload, address: usize) -> Upload
+    ensures { λ r. ⌜ uploadOf r ≡ restarted address (uploadOf u) ⌝ }
+{
+    if address == 0 {
+        return u.restarted();
+    }
+    u
+}

@@ -1,0 +1,2 @@
+-- Laws of an upload and the flash.
+pub mod Laws

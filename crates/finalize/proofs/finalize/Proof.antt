@@ -1,0 +1,82 @@
+-- `finalize::finalize` meets its contract: nothing waiting leaves all as it is, else the waiting bytes lie in one page and are committed
+-- there. By `finalized-none`, `finalized-some` and `committed-counted`.
+use mathlib.Core.Path.{_≡_, refl, sym, _∙_}
+use native.Mathlib.Omega.{arith}
+use lib.ListN.{length, length-take}
+use borrow.Author.Needs.{needs}
+use Rattle.laws.proofs.UploadLaws.{sub-mod}
+use Rattle.state.specs.View.{page}
+use Rattle.profile.specs.View.{profileOf}
+use Rattle.commit.proofs.Laws.{ready-bounds, fitting, committed-counted, finalized-none, finalized-some, finalized-formed}
+use Rattle.finalize.proofs.finalize.Statement.{statement}
+use Rattle.finalize.proofs.finalize.Tie as tie
+
+returns : tie.Need-returns
+returns c =
+    let start = c .before .before in
+    let u = start .args .u in (
+      sym (finalized-none (profileOf (start .args .p)) u (start .args .flash .now) (c .if1 .taken)),
+      record { formed = start .pre .formed; next-is = refl },
+    )
+
+sub-commit-counted : tie.Need-sub-commit-counted
+sub-commit-counted c =
+    let b = ready-bounds (c .before .before .before .before .pre) in
+    omega arith
+
+add-commit-counted : tie.Need-add-commit-counted
+add-commit-counted c =
+    let b = ready-bounds (c .before .before .before .before .pre) in
+    omega arith
+
+array-share-prefix-waiting : tie.Need-array-share-prefix-waiting
+array-share-prefix-waiting c =
+    let start = c .before .before .before .before in
+    let b = ready-bounds (start .pre) in
+    let h : length (start .args .u .waiting) ≡ page = search needs in
+    omega arith
+
+slice-aggregate-commit-counted : tie.Need-slice-aggregate-commit-counted
+slice-aggregate-commit-counted c =
+    let start = c .before .before .before .before .before in
+    let b = ready-bounds (start .pre) in
+    let h : length (start .args .u .waiting) ≡ page = search needs in
+    simp length-take (omega arith)
+
+commit-counted-requires : tie.Need-commit-counted-requires
+commit-counted-requires c κs =
+    let start = c .before .before .before .before .before in
+    let b = ready-bounds (start .pre) in
+    let h : length (start .args .u .waiting) ≡ page = search needs in
+    simp length-take (omega arith)
+
+same-length : tie.Need-same-length
+same-length c = search needs
+
+returns-2 : tie.Need-returns-2
+returns-2 c =
+    let start = c .before .before .before .before .before .before .before .before in
+    let p = start .args .p in
+    let u = start .args .u in
+    let d = start .args .flash .now in
+    let b = ready-bounds (start .pre) in
+    let some = c .before .before .before .before .before .before .if1 .left in
+    let place = sub-mod page (u .next) (u .held) (omega arith) (b .held .held-most) in
+    let lies = fitting p u d (b .profile) (start .pre .flash-holds) (b .held .next-most) (omega arith) (omega arith) in
+    let h : length (u .waiting) ≡ page = search needs in
+    let done =
+    sym (finalized-some (profileOf p) u d some ∙ committed-counted p u lies (omega arith) (c .before .before .commit-counted .ensures)) in
+    (done, finalized-formed d (start .pre) _ done)
+
+pub finalize-spec : {M : Type 1} → statement M
+finalize-spec =
+    tie.close
+    (tie.spec
+    returns
+    sub-commit-counted
+    add-commit-counted
+    array-share-prefix-waiting
+    slice-aggregate-commit-counted
+    commit-counted-requires
+    same-length
+    returns-2)

@@ -1,0 +1,2 @@
+-- A law of last replies.
+pub mod Laws

@@ -1,0 +1,43 @@
+// Whether a state is one of this board: the test behind number 4.
+use profile::Profile;
+use rules::kinds::Bus;
+use state::State;
+use state::Upload;
+ghost use mathlib.Core.Path.{_≡_};
+ghost use Rattle.rules.specs.State.{uploadFormed, wellFormed};
+ghost use Rattle.state.specs.View.{page, uploadOf, view};
+ghost use Rattle.profile.specs.View.{profileOf};
+
+// next at most S, w at most next mod page, the count at most next - w.
+fn upload_formed(size: usize, u: Upload) -> bool
+    ensures { λ r. ⌜ r ≡ uploadFormed page size (uploadOf u) ⌝ }
+{
+    let next = u.next;
+    let held = u.held;
+    if size < next {
+        return false;
+    }
+    if next % State::PAGE < held {
+        return false;
+    }
+    u.count <= next - held
+}
+
+// Number 4 is given exactly where this is false.
+pub fn well_formed(p: Profile, s: State) -> bool
+    ensures { λ r. ⌜ r ≡ wellFormed (profileOf p) (view s) ⌝ }
+{
+    let upload = s.upload;
+    if !upload_formed(p.size, upload) {
+        return false;
+    }
+    let len = s.last.len;
+    if p.longest < len {
+        return false;
+    }
+    let bus = p.bus;
+    match bus {
+        Bus::I2c => true,
+        Bus::Rs485 => len == 0,
+    }
+}

@@ -1,0 +1,52 @@
+// A frame that is neither general call, by length, check sum and address: what it is to a board, by name.
+use addressing::addressed;
+use rules::kinds::Address;
+use rules::kinds::Bus;
+use rules::kinds::Verdict;
+ghost use mathlib.Core.Path.{_≡_};
+ghost use Rattle.rules.specs.Frames.{framing};
+
+// An I²C write, by address, length and check sum.
+pub fn i2c_framing(longest: usize, own: Address, to: u8, frame: &[u8]) -> Verdict
+    ensures { λ r. ⌜ r ≡ framing Bus.I2c longest own to (now (frame .entry)) ⌝ }
+{
+    if to == 0 {
+        return Verdict::OtherGeneral;
+    }
+    if !addressed(Bus::I2c, own, to) {
+        return Verdict::Foreign;
+    }
+    if frame.len() < 2 {
+        return Verdict::BadTransfer;
+    }
+    if longest < frame.len() {
+        return Verdict::BadTransfer;
+    }
+    if !crc::sum_right(Bus::I2c, frame) {
+        return Verdict::BadSum;
+    }
+    Verdict::Command
+}
+
+// An RS485 frame, by length, check sum and address.
+pub fn rs485_framing(longest: usize, own: Address, frame: &[u8]) -> Verdict
+    ensures { λ r. ⌜ r ≡ framing Bus.Rs485 longest own 0 (now (frame .entry)) ⌝ }
+{
+    if frame.len() < 4 {
+        return Verdict::Short;
+    }
+    if longest < frame.len() {
+        return Verdict::Long;
+    }
+    if !crc::sum_right(Bus::Rs485, frame) {
+        return Verdict::WrongSum;
+    }
+    let to = frame[0];
+    if to == 0 {
+        return Verdict::OtherGeneral;
+    }
+    if !addressed(Bus::Rs485, own, to) {
+        return Verdict::Foreign;
+    }
+    Verdict::Command
+}

@@ -1,0 +1,2 @@
+-- Laws of the normalized state.
+pub mod NormalizeLaws

@@ -1,0 +1,2 @@
+-- Laws of a refusal.
+pub mod Laws

@@ -1,0 +1,2 @@
+-- What a check of a call answers.
+pub mod Checks

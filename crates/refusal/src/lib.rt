@@ -1,0 +1,58 @@
+// Whether a board call is refused: the tests behind the numbers 2, 3, 4 and 5, in that order in `refuse`.
+use formed::well_formed;
+use profile::Profile;
+use profile::in_range;
+use rules::kinds::Outcome;
+use state::State;
+ghost use mathlib.Core.Path.{_≡_};
+ghost use Rattle.rules.specs.Numbers.{flashShort, bufferShort, refusal};
+ghost use Rattle.state.specs.View.{view};
+ghost use Rattle.refusal.specs.Checks.{checkOf};
+ghost use Rattle.profile.specs.View.{profileOf};
+
+// Number 3: a lent flash of len bytes is shorter than O + S. O + S itself might not fit a usize.
+pub fn flash_short(p: Profile, len: usize) -> bool
+    ensures { λ r. ⌜ r ≡ flashShort (profileOf p) len ⌝ }
+{
+    let offset = p.offset;
+    if len < offset {
+        return true;
+    }
+    len - offset < p.size
+}
+
+// Number 5: a reply buffer of len bytes is shorter than M.
+pub fn buffer_short(p: Profile, len: usize) -> bool
+    ensures { λ r. ⌜ r ≡ bufferShort (profileOf p) len ⌝ }
+{
+    len < p.longest
+}
+
+// Whether a board call goes on, or its answer.
+pub enum Check {
+    Passed,
+    Refused(Outcome),
+}
+
+// Order of a board call's tests: 2, 3, 4, 5.
+pub fn refuse(p: Profile, s: State, flash: usize, buffer: usize) -> Check
+    ensures { λ r. ⌜ r ≡ checkOf (refusal (profileOf p) (view s) flash buffer) ⌝ }
+{
+    let ranged = in_range(p);
+    let short = flash_short(p, flash);
+    let formed = well_formed(p, s);
+    let small = buffer_short(p, buffer);
+    if !ranged {
+        return Check::Refused(Outcome::ProfileOutOfRange);
+    }
+    if short {
+        return Check::Refused(Outcome::FlashTooShort);
+    }
+    if !formed {
+        return Check::Refused(Outcome::StateMalformed);
+    }
+    if small {
+        return Check::Refused(Outcome::BufferTooShort);
+    }
+    Check::Passed
+}

@@ -1,0 +1,18 @@
+// A script, calls written in bytes: its records, and what running it leaves (specs/). `replay` runs one.
+ghost use mathlib.Core.Path.{_≡_};
+ghost use lib.ListN.{length, drop};
+ghost use Prim.Native.Nat.{_+_, _≤_};
+ghost use Rattle.script.specs.Script.{head, frameLength};
+
+// The bytes of a record before its frame: a kind, an address, a length in two bytes.
+pub const HEAD: usize = 4;
+
+// The length of the frame of the record at a place.
+pub fn frame_length(script: &[u8], at: usize) -> usize
+    requires { ⌜ at + head ≤ length (now script) ⌝ }
+    ensures { λ r. ⌜ r ≡ frameLength (drop at (now (script .entry))) ⌝ }
+{
+    let high = at + 2;
+    let low = at + 3;
+    script[high] as usize * 256 + script[low] as usize
+}

@@ -1,0 +1,37 @@
+-- A frame taken apart, and results that fit.
+use mathlib.Core.Path.{_≡_, sym, ap, _∙_}
+use mathlib.Core.List.{List}
+use Prim.Native.Nat.{ℕ, _+_, _-_, _≤_}
+use native.Mathlib.Omega.{arith}
+use lib.ListN.{length, take, drop}
+use lib.Seq.{take-add, drop-at, length-take-le}
+use Rattle.rules.specs.Profile.{Profile}
+use Rattle.rules.specs.State as rules
+use Rattle.rules.specs.Commands.{Response, Reply, NoReply, executed}
+use Rattle.laws.proofs.CommandLaws as laws
+use Rattle.laws.proofs.StateLaws.{Unrefused}
+use Rattle.response.specs.declared.Response as response
+use Rattle.response.specs.Done.{counted}
+use Rattle.answer.specs.Answered.{Fits}
+
+-- a part of a list, cut behind first or before first
+pub take-drop : (k e : ℕ) (l : List ℕ) → k ≤ e → e ≤ length l → take (e - k) (drop k l) ≡ drop k (take e l)
+take-drop k e l before within =
+    let parts : e ≡ k + (e - k) = omega arith in
+    sym (ap (λ (n : ℕ). drop k (take n l)) parts
+    ∙ rw (take-add k (e - k) l) (drop-at (take k l) (take (e - k) (drop k l)) k (length-take-le k l (omega arith))))
+
+-- a command's results fit the reply buffer and the last reply
+pub fits-counted : (p : Profile) (n : ℕ) (r : Response) → p .longest ≤ 256 → p .longest ≤ n → laws.Fits p r → Fits (p .bus) n (counted r)
+fits-counted p n (Reply status results) small room fits = (omega arith, omega arith)
+fits-counted p n NoReply small room fits = tt
+
+-- the response of a command fits the buffer that it was served with
+pub fits-served : (p : Profile) (s : rules.State) (code : ℕ) (args d : List ℕ) (n m k : ℕ) → Unrefused p s n m → length d ≡ n → k ≡ m
+    → (r : response.Response)
+    → r ≡ counted (executed p s code args d .response) → Fits (p .bus) k r
+fits-served p s code args d n m k unrefused flash buffer r e =
+    let formed-result =
+    laws.executed-formed-result p (unrefused .profile) s (unrefused .state .upload) d (omega (arith, unrefused .flash-holds)) code args in
+    rw e (fits-counted p k (executed p s code args d .response) (unrefused .profile .longest-most)
+    (omega (arith, unrefused .buffer-holds)) (formed-result .fits))
