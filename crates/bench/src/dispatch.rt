@@ -1,7 +1,6 @@
 // A line of the script: read, shown again and run.
 use bench_exchange::bench::Bench;
 use bench_requests::calls;
-use bench_requests::plain;
 use bench_requests::uploads;
 use bench_script::fields::first;
 use bench_script::fields::is;
@@ -12,23 +11,29 @@ use bench_script::lines::Line;
 use bench_script::lines::is_comment;
 use bench_settings::setup;
 use bench_settings::shown;
+use bench_words::ShowWord;
 use bench_words::Word;
 use bench_words::word_named;
 
+// `state`, `map` or `help`: the bench stays as it is.
+fn show(d: Bench, word: ShowWord, memory: &[u8]) -> Bench {
+    shown::run_line(d, word, memory);
+    d
+}
+
+fn unknown(d: Bench) -> Bench {
+    d.refused(b"a line that help lists, or # and a comment")
+}
+
 // Runs a line by its first word.
-fn run_line(d: Bench, s: &[u8], memory: &mut [u8]) -> Bench {
-    let word = word_named(first(s));
-    let arguments = rest(s);
+fn run_word(d: Bench, word: Word, s: &[u8], memory: &mut [u8]) -> Bench {
     match word {
-        Word::Setup(w) => setup::run_line(d, w, arguments, memory),
-        Word::Show(w) => {
-            shown::run_line(d, w, memory);
-            d
-        }
-        Word::Upload => uploads::run_line(d, arguments, memory),
-        Word::Call(w) => calls::run_line(d, w, arguments, memory),
-        Word::Plain(w) => plain::run_line(d, w, arguments, memory),
-        Word::Unknown => d.refused(b"a line that help lists, or # and a comment"),
+        Word::Setup(w) => setup::run_line(d, w, s, memory),
+        Word::Show(w) => show(d, w, memory),
+        Word::Upload => uploads::run_line(d, s, memory),
+        Word::Call(w) => calls::run_line(d, w, s, memory),
+        Word::Plain(w) => bench_plain::run_line(d, w, s, memory),
+        Word::Unknown => unknown(d),
     }
 }
 
@@ -44,7 +49,7 @@ fn show_and_run_line(d: Bench, line: &[u8], memory: &mut [u8]) -> Bench {
         return d;
     }
     shown::line(b"> ", s);
-    run_line(d, s, memory)
+    run_word(d, word_named(first(s)), rest(s), memory)
 }
 
 // Cleans the line in the first n bytes, and runs it.

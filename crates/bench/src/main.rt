@@ -5,8 +5,8 @@ use crate::dispatch::run_next_line;
 use bench_exchange::bench::Bench;
 use bench_exchange::memory::MEMORY;
 use bench_exchange::memory::fill_flash;
+use bench_output::say;
 use bench_script::fields::is;
-use bench_script::output::say;
 use bench_settings::shown::status;
 use bench_settings::shown::tell_end;
 
@@ -24,12 +24,17 @@ fn run_script(fd: i32, line: &mut [u8], memory: &mut [u8]) -> usize {
     status(d)
 }
 
-// A new bench: erased flash, and nothing rewritten. Answers the script's status.
-fn start(fd: i32) -> usize {
+// A new bench: erased flash, and nothing rewritten.
+fn start_with(fd: i32, memory: &mut [u8]) -> usize {
     let mut line = [0u8; 2048];
+    fill_flash(memory, 0xff);
+    run_script(fd, &mut line, memory)
+}
+
+// Answers the script's status.
+fn start(fd: i32) -> usize {
     let mut memory = [0u8; MEMORY];
-    fill_flash(&mut memory, 0xff);
-    run_script(fd, &mut line, &mut memory)
+    start_with(fd, &mut memory)
 }
 
 // Writes the status to the file that the argument at a place names, if there is one.

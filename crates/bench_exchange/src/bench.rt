@@ -1,7 +1,7 @@
 // What the bench remembers between lines: the board's profile and state, and the master's side.
-use bench_script::output::increment;
-use bench_script::output::say;
-use bench_script::output::tell;
+use bench_output::increment;
+use bench_output::say;
+use bench_output::tell;
 use profile::Profile;
 use rules::kinds::Address;
 use rules::kinds::Bus;

@@ -2,11 +2,11 @@
 use crate::bench::Bench;
 use crate::library;
 use crate::pages;
-use bench_script::output::as_usize;
-use bench_script::output::say;
-use bench_script::output::say_byte;
-use bench_script::output::say_bytes;
-use bench_script::output::tell;
+use bench_output::as_usize;
+use bench_output::say;
+use bench_output::say_byte;
+use bench_output::say_bytes;
+use bench_output::tell;
 use bench_wording::alarm;
 use bench_wording::changes::tell_changes;
 use bench_wording::meaning;

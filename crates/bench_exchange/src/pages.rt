@@ -5,9 +5,9 @@ use crate::memory::COUNTS;
 use crate::memory::FLASH;
 use crate::memory::MEMORY;
 use crate::memory::PAGES;
-use bench_script::output::increment;
-use bench_script::output::say;
-use bench_script::output::tell;
+use bench_output::increment;
+use bench_output::say;
+use bench_output::tell;
 use profile::Profile;
 use state::State;
 

@@ -7,7 +7,7 @@ use crate::library;
 use crate::memory::FLASH;
 use crate::memory::IMAGE;
 use alarms::UploadEnd;
-use bench_script::output::min;
+use bench_output::min;
 use bench_wording::meaning;
 use bench_wording::reply::Asked;
 use bench_wording::reply::no_result;

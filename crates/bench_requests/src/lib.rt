@@ -1,4 +1,3 @@
-// Lines of a script by which the master makes requests: commands, raw frames and reads, and whole uploads.
+// Lines of a script by which the master makes requests with arguments, sends raw frames, reads, and uploads a whole image.
 pub mod calls;
-pub mod plain;
 pub mod uploads;

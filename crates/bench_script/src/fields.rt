@@ -1,7 +1,7 @@
 // A line's fields, separated by blanks: words, numbers and bytes.
-use crate::output::as_usize;
-use crate::output::find;
-use crate::output::min;
+use bench_output::as_usize;
+use bench_output::find;
+use bench_output::min;
 ghost use Prim.Native.Nat.{_≤_};
 ghost use lib.ListN.{length};
 

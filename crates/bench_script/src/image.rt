@@ -6,7 +6,7 @@ use crate::fields::hex_byte;
 use crate::fields::is;
 use crate::fields::number;
 use crate::fields::rest;
-use crate::output::say;
+use bench_output::say;
 
 // Sets the first n bytes, or all if there are fewer.
 pub fn fill(s: &mut [u8], n: usize, b: u8) {
@@ -16,18 +16,6 @@ pub fn fill(s: &mut [u8], n: usize, b: u8) {
             return;
         }
         s[i] = b;
-        i += 1;
-    }
-}
-
-// Copies as many bytes as both have.
-pub fn copy(from: &[u8], to: &mut [u8]) {
-    let mut i = 0;
-    while i < from.len() {
-        if to.len() <= i {
-            return;
-        }
-        to[i] = from[i];
         i += 1;
     }
 }

@@ -1,5 +1,4 @@
-// For the bench: the lines of a script with their words, numbers and bytes, and what is written to standard output.
+// For the bench: the lines of a script with their words, numbers and bytes.
 pub mod fields;
 pub mod image;
 pub mod lines;
-pub mod output;

@@ -1,8 +1,8 @@
 // What a call changed in the board's state, in words.
-use bench_script::output::as_usize;
-use bench_script::output::say;
-use bench_script::output::tell;
-use bench_script::output::tell_all;
+use bench_output::as_usize;
+use bench_output::say;
+use bench_output::tell;
+use bench_output::tell_all;
 use rules::kinds::Address;
 use state::State;
 use state::Upload;

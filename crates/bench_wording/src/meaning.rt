@@ -1,9 +1,9 @@
 // What a number, a status and a silence mean, and what to do about them. docs/NUMBERS.md has all of them at length.
 use alarms::ignored;
-use bench_script::output::as_usize;
-use bench_script::output::say;
-use bench_script::output::say_piece;
-use bench_script::output::tell;
+use bench_output::as_usize;
+use bench_output::say;
+use bench_output::say_piece;
+use bench_output::tell;
 use numbers::board_number;
 use numbers::decoded_number;
 use numbers::encoded_number;

@@ -1,10 +1,10 @@
 // The master's side of a reply: decoded, and said in words.
 use crate::meaning;
-use bench_script::output::as_usize;
-use bench_script::output::say;
-use bench_script::output::say_bytes;
-use bench_script::output::tell;
-use bench_script::output::tell_all;
+use bench_output::as_usize;
+use bench_output::say;
+use bench_output::say_bytes;
+use bench_output::tell;
+use bench_output::tell_all;
 use rules::kinds::Bus;
 use rules::requests::Decoded;
 use rules::requests::Version;

@@ -1,9 +1,9 @@
--- `bench_script::output::say_bytes` is safe and ends. The place stays within the slice and moves on.
+-- `bench_output::say_bytes` is safe and ends. The place stays within the slice and moves on.
 use Prim.Native.Nat.{_≤_, _-_}
 use lib.ListN.{length}
 use borrow.Author.Needs.{needs}
-use Rattle.bench_script.proofs.output.say_bytes.Statement.{statement}
-use Rattle.bench_script.proofs.output.say_bytes.Tie as tie
+use Rattle.bench_output.proofs.say_bytes.Statement.{statement}
+use Rattle.bench_output.proofs.say_bytes.Tie as tie
 
 abbrev Inv-loop : tie.InvT-loop
 Inv-loop s i₀ i = i ≤ length s

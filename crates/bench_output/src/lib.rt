@@ -1,4 +1,4 @@
-// What the program writes: words, numbers and bytes, to standard output.
+// What the bench writes: words, numbers and bytes, to standard output.
 use libc::STDOUT_FILENO;
 ghost use Prim.Native.Nat.{_≤_};
 ghost use lib.ListN.{length};

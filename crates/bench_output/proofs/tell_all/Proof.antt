@@ -1,11 +1,11 @@
--- `bench_script::output::tell_all` is safe and ends: what is said already ends at or before the place that is read.
+-- `bench_output::tell_all` is safe and ends: what is said already ends at or before the place that is read.
 use mathlib.Core.Logic.{⊎-elim}
 use Prim.Native.Nat.{_≤_, _-_}
 use native.Mathlib.Omega.{arith}
 use lib.ListN.{length}
 use borrow.Author.Needs.{needs}
-use Rattle.bench_script.proofs.output.tell_all.Statement.{statement}
-use Rattle.bench_script.proofs.output.tell_all.Tie as tie
+use Rattle.bench_output.proofs.tell_all.Statement.{statement}
+use Rattle.bench_output.proofs.tell_all.Tie as tie
 
 abbrev Inv-loop : tie.InvT-loop
 Inv-loop text numbers k₀ from₀ i₀ k from i = (i ≤ length text) × (from ≤ i)
