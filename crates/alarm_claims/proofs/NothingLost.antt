@@ -19,7 +19,7 @@ use Rattle.laws.proofs.StateLaws.{refusal-unrefused}
 use Rattle.laws.proofs.UploadLaws.{by-test, formed-fitting}
 use Rattle.ledger.proofs.Finish.{overlay-inside}
 use Rattle.byte_parts.specs.Parts.{standsAt}
-use Rattle.alarms.specs.Alarms.{firstWaiting, waitsAt, lostByte, lostFrom, lostBytes}
+use Rattle.lost_bytes.specs.Lost.{firstWaiting, waitsAt, lostByte, lostFrom, lostBytes}
 use Rattle.alarm_claims.specs.Claims.{KeptLosesNothing, FinalizeLosesNothing}
 
 -- a byte that is there stands there

@@ -10,7 +10,8 @@ use Rattle.rules.specs.State.{State, Upload}
 use Rattle.rules.specs.Numbers.{refusal}
 use Rattle.rules.specs.Commands.{finished}
 use Rattle.rules.specs.Board.{nothing, handled}
-use Rattle.alarms.specs.Alarms.{lostBytes, ignored}
+use Rattle.alarms.specs.Alarms.{ignored}
+use Rattle.lost_bytes.specs.Lost.{lostBytes}
 
 -- the same upload before and after, over any flash
 abbrev pub KeptLosesNothing : Type 0

@@ -1,2 +1,2 @@
--- What a technician must not miss, and how the code's uploads stand for the rules'.
+-- Silence, and a finalize that erased nothing.
 pub mod Alarms

@@ -1,23 +1,13 @@
-// What a technician must not miss. The definitions of all alarms stand in specs/; silence and a finalize that erased nothing are decided
-// here, lost and waiting bytes in `lost_bytes`, the end of an upload in `upload_ends`. The bench only says them.
+// What a technician must not miss after a call: silence that is no dead board, and a finalize that erased nothing. Lost and waiting bytes
+// are decided in `lost_bytes`, the end of an upload in `upload_ends`. The bench only says them.
 use byte_parts::byte_or;
 use rules::kinds::Bus;
 use rules::kinds::Verdict;
 use state::Upload;
 ghost use mathlib.Core.Path.{_≡_};
 ghost use Rattle.ledger.specs.Ledger.{offsets};
-ghost use Rattle.alarms.specs.Alarms.{uploadOf, erasedNothing};
+ghost use Rattle.alarms.specs.Alarms.{erasedNothing};
 ghost use Rattle.alarms.specs.Alarms as alarms;
-
-// How an upload ended.
-pub enum UploadEnd {
-    // The working flash begins with the image.
-    Whole,
-    // It does not, and some of its bytes changed since the first write.
-    Partly,
-    // It does not, and is as it was before the first write.
-    Unchanged,
-}
 
 // Silence that means no dead board: the frame changes nothing and gets no reply.
 pub fn ignored(v: Verdict) -> bool
@@ -50,7 +40,7 @@ fn command_place(bus: Bus) -> usize
 
 // Erased nothing: the call, given by its frame, number and reply, is an answered finalize, and the erase count is 0.
 pub fn erased_nothing(bus: Bus, frame: &[u8], number: usize, reply: &[u8], after: Upload) -> bool
-    ensures { λ r. ⌜ r ≡ erasedNothing bus (now (frame .entry)) number (now (reply .entry)) (uploadOf after) ⌝ }
+    ensures { λ r. ⌜ r ≡ erasedNothing bus (now (frame .entry)) number (now (reply .entry)) (after .count) ⌝ }
 {
     let place = command_place(bus);
     if byte_or(frame, place, 0) != 0x07 {

@@ -3,7 +3,6 @@ use crate::memory::COPY;
 use crate::memory::EARLIER;
 use crate::memory::FLASH;
 use crate::memory::IMAGE;
-use alarms::UploadEnd;
 use answer::Answer;
 use profile::Profile;
 use rules::kinds::Bus;
@@ -13,6 +12,7 @@ use rules::requests::Encoded;
 use rules::requests::Request;
 use state::State;
 use state::Upload;
+use upload_ends::UploadEnd;
 
 // n bytes of the memory from a place on; none where it has not so many.
 pub(crate) fn part<'a>(memory: &'a [u8], at: usize, n: usize) -> &'a [u8] {

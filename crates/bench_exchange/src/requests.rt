@@ -6,7 +6,6 @@ use crate::frames::send;
 use crate::library;
 use crate::memory::FLASH;
 use crate::memory::IMAGE;
-use alarms::UploadEnd;
 use bench_output::min;
 use bench_wording::meaning;
 use bench_wording::reply::Asked;
@@ -14,6 +13,7 @@ use bench_wording::reply::no_result;
 use bench_wording::reply::part;
 use rules::requests::Encoded;
 use rules::requests::Request;
+use upload_ends::UploadEnd;
 
 fn unsent(d: Bench) -> Exchange {
     Exchange {

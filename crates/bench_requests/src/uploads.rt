@@ -1,5 +1,4 @@
 // `upload`: the image's length held against S, all frames, finalize, and the whole image read back; and how that ended.
-use alarms::UploadEnd;
 use bench_exchange::bench::Bench;
 use bench_exchange::memory::keep_earlier;
 use bench_exchange::memory::load_data;
@@ -25,6 +24,7 @@ use bench_wording::alarm::tell_waiting;
 use bench_wording::alarm::tell_waiting_after;
 use rules::kinds::Bus;
 use rules::requests::Request;
+use upload_ends::UploadEnd;
 
 // An upload so far, and whether each step was OK.
 struct Sent {

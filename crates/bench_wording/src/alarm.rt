@@ -1,7 +1,7 @@
 // Alarms in words. What stands between `**` must not be missed. The cases are decided by the crate `alarms`.
-use alarms::UploadEnd;
 use bench_output::say;
 use bench_output::tell;
+use upload_ends::UploadEnd;
 
 // Says the first text for 1, the second for more, with the number in it.
 fn tell_few(n: usize, one: &[u8], more: &[u8]) {

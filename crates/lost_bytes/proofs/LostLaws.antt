@@ -7,7 +7,7 @@ use native.Mathlib.Omega.{arith}
 use native.Mathlib.Numerals.{add-one}
 use lib.ListN.{length, getD, take, drop, drop-of-length-le}
 use lib.Seq.{drop-cons}
-use Rattle.alarms.specs.Alarms.{lostByte, lostFrom}
+use Rattle.lost_bytes.specs.Lost.{lostByte, lostFrom}
 
 -- as many bytes as a part has
 pub take-part : (n : ℕ) (l : List ℕ) → take (length (take n l)) l ≡ take n l

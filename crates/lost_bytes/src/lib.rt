@@ -7,7 +7,7 @@ ghost use mathlib.Core.Path.{_≡_};
 ghost use mathlib.Core.Bool.{cond};
 ghost use Prim.Native.Nat.{_+_, _-_, _<_, _^_};
 ghost use lib.ListN.{length};
-ghost use Rattle.alarms.specs.Alarms.{uploadOf, waitsAt, lostByte, lostFrom, lostBytes, waitingBytes};
+ghost use Rattle.lost_bytes.specs.Lost.{uploadOf, waitsAt, lostByte, lostFrom, lostBytes, waitingBytes};
 
 // Whether b is among the bytes that wait from a flash address on, at its own address.
 fn waits_at(first: usize, waiting: &[u8], address: usize, b: u8) -> bool

@@ -1,5 +1,4 @@
 // How an upload ended, by the lent flash before its first write and at its end, and which pages changed between.
-use alarms::UploadEnd;
 use byte_parts::first;
 use byte_parts::from;
 use flash::matches;
@@ -8,7 +7,17 @@ ghost use mathlib.Core.Path.{_≡_};
 ghost use Prim.Native.Nat.{_*_};
 ghost use Rattle.byte_parts.specs.Parts.{part};
 ghost use Rattle.state.specs.View.{page};
-ghost use Rattle.alarms.specs.Alarms.{beginsWith, uploadEnd, pageChanged};
+ghost use Rattle.upload_ends.specs.Ends.{beginsWith, uploadEnd, pageChanged};
+
+// How an upload ended.
+pub enum UploadEnd {
+    // The working flash begins with the image.
+    Whole,
+    // It does not, and some of its bytes changed since the first write.
+    Partly,
+    // It does not, and is as it was before the first write.
+    Unchanged,
+}
 
 // n bytes from a place on, or as many as there are.
 fn part_of<'a>(bytes: &'a [u8], at: usize, n: usize) -> &'a [u8]

@@ -5,7 +5,7 @@ use native.Mathlib.Nat.{add-zero, zero-add}
 use native.Mathlib.Omega.{arith}
 use lib.ListN.{length, drop, getD}
 use borrow.Author.Needs.{needs}
-use Rattle.alarms.specs.Alarms.{lostByte, lostFrom}
+use Rattle.lost_bytes.specs.Lost.{lostByte, lostFrom}
 use Rattle.lost_bytes.proofs.LostLaws.{at-most-one, lost-next, lost-end}
 use Rattle.lost_bytes.proofs.lost_from.Statement.{statement}
 use Rattle.lost_bytes.proofs.lost_from.Tie as tie

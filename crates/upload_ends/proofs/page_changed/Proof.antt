@@ -1,7 +1,7 @@
 -- `upload_ends::page_changed` meets its contract: the two pages are compared.
 use mathlib.Core.Path.{ap}
 use mathlib.Core.Bool.{not}
-use Rattle.alarms.specs.Alarms.{pageChanged}
+use Rattle.upload_ends.specs.Ends.{pageChanged}
 use borrow.Author.Needs.{needs}
 use Rattle.upload_ends.proofs.page_changed.Statement.{statement}
 use Rattle.upload_ends.proofs.page_changed.Tie as tie

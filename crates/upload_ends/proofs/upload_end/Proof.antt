@@ -1,6 +1,6 @@
 -- `upload_ends::upload_end` meets its contract, by its two comparisons.
 use mathlib.Core.Path.{sym, _∙_}
-use Rattle.alarms.specs.Alarms.{uploadEnd}
+use Rattle.upload_ends.specs.Ends.{uploadEnd}
 use borrow.Author.Needs.{needs}
 use Rattle.upload_ends.proofs.upload_end.Statement.{statement}
 use Rattle.upload_ends.proofs.upload_end.Tie as tie

@@ -1,0 +1,2 @@
+-- Bytes that wait, and bytes that are lost.
+pub mod Lost

@@ -1,0 +1,2 @@
+-- How an upload ended.
+pub mod Ends
