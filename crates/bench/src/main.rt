@@ -1,7 +1,7 @@
 // The bench: plays a board, and the master beside it, from a script of plain lines, and says in words what happened.
 // The script is the file that the first argument names, or standard input; a second argument names a file for the status.
 // The lines are listed by `help` and in docs/BENCH.md.
-use crate::dispatch::run_next_line;
+use crate::run::run_next_line;
 use bench_exchange::bench::Bench;
 use bench_exchange::memory::MEMORY;
 use bench_exchange::memory::fill_flash;
@@ -10,7 +10,7 @@ use bench_script::fields::is;
 use bench_settings::shown::status;
 use bench_settings::shown::tell_end;
 
-mod dispatch;
+mod run;
 
 // The whole script; its status.
 fn run_script(fd: i32, line: &mut [u8], memory: &mut [u8]) -> usize {
