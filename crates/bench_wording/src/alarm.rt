@@ -68,7 +68,7 @@ pub fn tell_waiting_after(ok: bool, n: usize) {
 // A finalize that counted no erased page, after so many accepted bytes.
 pub fn tell_unworn(next: usize) {
     if next == 0 {
-        say(b"  ** 0 pages erased: nothing was written since the last reset **\n");
+        say(b"  ** 0 pages erased: this upload has no bytes **\n");
         return;
     }
     say(b"  ** 0 pages erased: the flash held these bytes already, nothing was worn **\n");
