@@ -8,6 +8,7 @@ import random
 import re
 import subprocess
 import sys
+import tempfile
 
 PAGE = 64
 ENDS = ("upload done", "holds the whole image", "partly uploaded", "not uploaded", "not begun")
@@ -20,6 +21,7 @@ class Board:
         self.flash = flash
         self.setup("i2c", 1024, 0)
         self.hit = {"byte": None, "reply": None}
+        self.silences = 0
 
     def setup(self, bus, size, offset):
         self.bus, self.size, self.offset = bus, size, offset
@@ -54,11 +56,10 @@ class Board:
         """One frame to the board; (status or None, whether it was an OK to finalize)."""
         length = {"write": 3, "read": 4}.get(command, 1) + len(data) + (1 if self.bus == "i2c" else 3)
         damaged = self.strikes("byte", length)
-        if self.running:
+        if self.running or damaged and self.bus == "rs485":
+            self.silences += 1
             return None, False
         if damaged:
-            if self.bus == "rs485":
-                return None, False
             return self.replied(4, 0), False
         if command == "start":
             self.running, self.held, self.last = True, b"", 0
@@ -96,7 +97,7 @@ class Board:
 
 class Expected:
     def __init__(self):
-        self.lost, self.waiting, self.unworn, self.end = [], [], 0, None
+        self.lost, self.waiting, self.unworn, self.end, self.silent = [], [], 0, None, 0
 
 
 def lost(board, place, held):
@@ -150,6 +151,13 @@ def upload(board, e, data, frame):
 def line(board, rng):
     """A line of a script, and what the bench must say after it."""
     e = Expected()
+    silences = board.silences
+    text = make_line(board, rng, e)
+    e.silent = board.silences - silences
+    return text, e
+
+
+def make_line(board, rng, e):
     often = ["write"] * 8 + ["finalize"] * 3 + ["upload"] * 3 + ["damage"] * 4 + ["reset"] * 2
     kind = rng.choice(often + ["start", "reset-address", "version", "read-again", "board", "flash"])
     byte = rng.choice([0x00, 0x11, 0x22, 0xff])
@@ -159,23 +167,25 @@ def line(board, rng):
         n = sum(board.flash[offset + place + i] != b for i, b in enumerate(held))
         board.setup(bus, size, new)
         e.lost = [n] if n else []
-        return f"board {bus} S {size} O {new}", e
+        return f"board {bus} S {size} O {new}"
     if kind == "flash":
         board.flash[:] = bytes([byte]) * len(board.flash)
         e.waiting = [len(board.held)] if board.held else []
-        return f"flash fill {byte:02x}", e
+        return f"flash fill {byte:02x}"
     if kind == "damage":
         what, n, after = rng.choice(["byte", "reply"]), rng.randint(1, 6), rng.choice([0, 0, 0, 1, 2, 3, 5])
         board.hit[what] = (n, after)
-        return f"damage {what} {n}" + (f" after {after}" if after else ""), e
+        return f"damage {what} {n}" + (f" after {after}" if after else "")
     if kind == "upload":
         data, frame = bytes([byte]) * rng.randint(1, 270), rng.choice([20, 40, 58])
         upload(board, e, data, frame)
         e.waiting = None
-        return f"upload fill {byte:02x} {len(data)} frames {frame}", e
+        return f"upload fill {byte:02x} {len(data)} frames {frame}"
     if kind == "read-again":
         if board.bus == "i2c" and not board.running and board.last:
             board.strikes("reply", board.last)
+        else:
+            board.silences += 1
         text = "i2c-read"
     elif kind == "write":
         board.at = rng.choice([0, board.next, board.next, rng.randint(0, 250)])
@@ -187,18 +197,20 @@ def line(board, rng):
         place, held = board.place(), board.held
         general = 1 if board.bus == "i2c" else 4
         # A damaged general call is none: on I2C another byte to address 0, on RS485 a wrong check sum.
-        if not board.strikes("byte", general):
-            if kind == "reset":
-                board.fresh()
-            elif not board.running:
-                board.last = 0
+        damaged = board.strikes("byte", general)
+        if kind == "reset" and not damaged:
+            board.fresh()
+        elif board.running or damaged:
+            board.silences += 1
+        else:
+            board.last = 0
         n = lost(board, place, held)
         e.lost = [n] if n else []
     else:
         text = kind
         call(board, e, kind)
     e.waiting = [len(board.held)] if board.held else []
-    return text, e
+    return text
 
 
 def said(text):
@@ -206,9 +218,17 @@ def said(text):
     e.lost = [int(n) for n in re.findall(r"\*\* (\d+) accepted bytes? (?:is|are) lost", text)]
     e.waiting = [int(n) for n in re.findall(r"\*\* (?:OK, )?(\d+) bytes? still wait", text)]
     e.unworn = len(re.findall(r"\*\* 0 pages erased:", text))
+    e.silent = len(re.findall(r"\*\* (?:no reply: |nothing to read)", text))
     ends = [w for w in ENDS if w in text]
     e.end = ends[0] if len(ends) == 1 else (ends or None)
     return e
+
+
+def run(bench, lines):
+    """What the bench says to a script, and its status."""
+    with tempfile.NamedTemporaryFile("r") as status:
+        ran = subprocess.run([bench, "-", status.name], input="".join(t + "\n" for t in lines), capture_output=True, text=True, check=True)
+        return ran.stdout, int(status.read())
 
 
 def main():
@@ -218,12 +238,16 @@ def main():
     for k in range(scripts):
         board = Board(bytearray(b"\xff" * 131072))
         steps = [line(board, rng) for _ in range(rng.randint(5, 40))]
-        out = subprocess.run([bench], input="".join(t + "\n" for t, _ in steps), capture_output=True, text=True, check=True).stdout
+        out, status = run(bench, [t for t, _ in steps])
+        failed = any(e.end and e.end != "upload done" for _, e in steps)
+        alarmed = failed or board.silences or board.held or any(e.lost for _, e in steps)
+        if status != (3 if alarmed else 0):
+            sys.exit(f"script {k} of seed {seed}: status {status}")
         chunks = re.split(r"^> .*\n", out, flags=re.M)[1:]
-        chunks[-1] = re.split(r"^the script ends\n|^\*\* ", chunks[-1], flags=re.M)[0]
+        chunks[-1] = re.split(r"^  the script ends\n", chunks[-1], flags=re.M)[0]
         for i, ((text, e), chunk) in enumerate(zip(steps, chunks)):
             got = said(chunk)
-            parts = [("lost", e.lost, got.lost), ("0 pages erased", e.unworn, got.unworn), ("end", e.end, got.end)]
+            parts = [("lost", e.lost, got.lost), ("0 pages erased", e.unworn, got.unworn), ("end", e.end, got.end), ("silent", e.silent, got.silent)]
             if e.waiting is not None:
                 parts.append(("still wait", e.waiting, got.waiting))
             for name, want, have in parts:
@@ -238,7 +262,7 @@ def main():
         if len(chunks) != len(steps):
             sys.exit(f"script {k} of seed {seed}: {len(chunks)} lines of {len(steps)} were run")
     print(f"{scripts} scripts, alarms as expected: " + ", ".join(f"{n} {c}" for n, c in sorted(seen.items())))
-    missing = {"lost", "still wait", "0 pages erased", *ENDS} - set(seen)
+    missing = {"lost", "still wait", "0 pages erased", "silent", *ENDS} - set(seen)
     if missing and scripts >= 100:
         sys.exit(f"never seen: {missing}")
 

@@ -12,9 +12,14 @@ use bench_settings::shown::tell_end;
 
 mod run;
 
+// A new bench; the lines may be typed at a terminal.
+fn new_bench(fd: i32) -> Bench {
+    Bench::new(libc::isatty(fd) == 1)
+}
+
 // The whole script; its status.
 fn run_script(fd: i32, line: &mut [u8], memory: &mut [u8]) -> usize {
-    let mut d = Bench::new();
+    let mut d = new_bench(fd);
     let mut turns = u64::MAX;
     while 0 < turns && !d.ended {
         d = run_next_line(d, fd, line, memory);

@@ -1,9 +1,12 @@
 // A line of the script: read, shown again and run.
 use bench_exchange::bench::Bench;
+use bench_output::say;
 use bench_requests::calls;
 use bench_requests::uploads;
+use bench_script::fields::fault;
 use bench_script::fields::first;
 use bench_script::fields::is;
+use bench_script::fields::is_end;
 use bench_script::fields::rest;
 use bench_script::fields::trimmed;
 use bench_script::lines;
@@ -11,29 +14,39 @@ use bench_script::lines::Line;
 use bench_script::lines::is_comment;
 use bench_settings::setup;
 use bench_settings::shown;
-use bench_words::ShowWord;
 use bench_words::Word;
 use bench_words::word_named;
 
-// `state`, `map` or `help`: the bench stays as it is.
-fn show(d: Bench, word: ShowWord, memory: &[u8]) -> Bench {
-    shown::run_line(d, word, memory);
-    d
-}
-
-fn unknown(d: Bench) -> Bench {
+fn unknown(d: Bench, word: &[u8]) -> Bench {
+    fault(b"the word", word, b" begins no line\n", 0);
     d.refused(b"a line that help lists, or # and a comment")
 }
 
-// Runs a line by its first word.
-fn run_word(d: Bench, word: Word, s: &[u8], memory: &mut [u8]) -> Bench {
+// `quit`: as at the script's end.
+fn quit(d: Bench, s: &[u8]) -> Bench {
+    if !is_end(s) {
+        return d.refused(b"nothing after this word");
+    }
+    d.at_end()
+}
+
+// Runs a line by its first word, which `name` is.
+fn run_word(d: Bench, word: Word, name: &[u8], s: &[u8], memory: &mut [u8]) -> Bench {
     match word {
         Word::Setup(w) => setup::run_line(d, w, s, memory),
-        Word::Show(w) => show(d, w, memory),
+        Word::Show(w) => shown::run_line(d, w, s, memory),
         Word::Upload => uploads::run_line(d, s, memory),
         Word::Call(w) => calls::run_line(d, w, s, memory),
         Word::Plain(w) => bench_plain::run_line(d, w, s, memory),
-        Word::Unknown => unknown(d),
+        Word::Quit => quit(d, s),
+        Word::Unknown => unknown(d, name),
+    }
+}
+
+// Shows a line again, unless it was typed.
+fn show_line(typed: bool, before: &[u8], s: &[u8]) {
+    if !typed {
+        shown::line(before, s);
     }
 }
 
@@ -41,15 +54,15 @@ fn run_word(d: Bench, word: Word, s: &[u8], memory: &mut [u8]) -> Bench {
 fn show_and_run_line(d: Bench, line: &[u8], memory: &mut [u8]) -> Bench {
     let s = trimmed(line);
     if is_comment(s) {
-        shown::line(b"", s);
+        show_line(d.typed, b"", s);
         return d;
     }
     if is(first(s), b"say") {
         shown::line(b"", rest(s));
         return d;
     }
-    shown::line(b"> ", s);
-    run_word(d, word_named(first(s)), rest(s), memory)
+    show_line(d.typed, b"> ", s);
+    run_word(d, word_named(first(s)), first(s), rest(s), memory)
 }
 
 // Cleans the line in the first n bytes, and runs it.
@@ -61,15 +74,37 @@ fn clean_and_run_line(d: Bench, line: &mut [u8], n: usize, memory: &mut [u8]) ->
     if line.len() < n {
         return d.at_end();
     }
-    show_and_run_line(d, &line[0..n], memory)
+    show_and_run_line(d, lines::without_mark(&line[0..n]), memory)
+}
+
+// A prompt for a line that is typed.
+fn prompt(typed: bool) {
+    if typed {
+        say(b"> ");
+    }
+}
+
+// The end of what is typed stands on a line of its own.
+fn end(d: Bench) -> Bench {
+    if d.typed {
+        say(b"\n");
+    }
+    d.at_end()
+}
+
+// A line that is too long.
+fn too_long(d: Bench) -> Bench {
+    fault(b"the line", b"", b": at most % bytes here\n", 2048);
+    d.refused(b"a line that help lists, or # and a comment")
 }
 
 // Reads and runs the next line of the script.
 pub fn run_next_line(d: Bench, fd: i32, line: &mut [u8], memory: &mut [u8]) -> Bench {
+    prompt(d.typed);
     let got = lines::read_line(fd, line);
     match got {
-        Line::End => d.at_end(),
-        Line::Long => d.counted().refused(b"at most 2048 bytes in a line"),
+        Line::End => end(d),
+        Line::Long => too_long(d.counted()),
         Line::Text(n) => clean_and_run_line(d.counted(), line, n, memory),
     }
 }

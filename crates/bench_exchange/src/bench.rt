@@ -1,7 +1,8 @@
-// What the bench remembers between lines: the board's profile and state, and the master's side.
+// What the bench remembers between lines: the board's profile and state, the master's side, and what must not be missed.
 use bench_output::increment;
 use bench_output::say;
 use bench_output::tell;
+use bench_script::fields::Parsed;
 use profile::Profile;
 use rules::kinds::Address;
 use rules::kinds::Bus;
@@ -50,9 +51,12 @@ pub struct Bench {
     // lines read, and those among them that were not understood
     pub lines: usize,
     pub wrong: usize,
-    // calls that lost bytes, and uploads that failed
+    // calls that lost bytes, frames and reads that got nothing from a board that is well, and uploads that failed
     pub losses: usize,
+    pub silences: usize,
     pub failures: usize,
+    // the lines are typed at a terminal, which shows them already
+    pub typed: bool,
     // the script is at its end
     pub ended: bool,
 }
@@ -77,7 +81,7 @@ pub fn default_profile(bus: Bus) -> Profile {
 pub const FIRST_ADDRESS: usize = 8;
 
 impl Bench {
-    pub fn new() -> Self {
+    pub fn new(typed: bool) -> Self {
         Bench {
             profile: default_profile(Bus::I2c),
             state: State::fresh(),
@@ -89,7 +93,9 @@ impl Bench {
             lines: 0,
             wrong: 0,
             losses: 0,
+            silences: 0,
             failures: 0,
+            typed,
             ended: false,
         }
     }
@@ -136,11 +142,14 @@ impl Bench {
         self
     }
 
-    // After a reply of n bytes; 0 for none.
-    pub fn after_reply(mut self, n: usize) -> Self {
+    // After a reply of n bytes; 0 for none, and then whether that must not be missed.
+    pub fn after_reply(mut self, n: usize, missed: bool) -> Self {
         if 0 < n {
             let d = self.reply;
             self.reply = d.passed();
+        }
+        if missed {
+            self.silences = increment(self.silences);
         }
         self
     }
@@ -174,12 +183,27 @@ impl Bench {
     // A line that was not understood: it says what was expected, and changes nothing else.
     pub fn refused(mut self, expected: &[u8]) -> Self {
         tell(
-            b"  line % is not understood and changes nothing. Expected:\n    ",
+            b"  line % is not understood and changes nothing\n    expected: ",
             self.lines,
         );
         say(expected);
         say(b"\n");
         self.wrong = increment(self.wrong);
         self
+    }
+
+    // A line that cannot be done, since a file cannot be used.
+    fn undone(mut self) -> Self {
+        tell(b"  line % is not done and changes nothing\n", self.lines);
+        self.wrong = increment(self.wrong);
+        self
+    }
+
+    // A line whose bytes could not be read.
+    pub fn refused_data(self, got: Parsed, expected: &[u8]) -> Self {
+        match got {
+            Parsed::Unusable => self.undone(),
+            _ => self.refused(expected),
+        }
     }
 }

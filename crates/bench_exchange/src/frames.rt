@@ -22,10 +22,11 @@ use rules::kinds::Outcome;
 use rules::kinds::Verdict;
 use state::State;
 
-// What came to the master: the first `len` bytes.
+// What came to the master: the first `len` bytes; or a silence, and whether that must not be missed.
 pub struct Reply {
     pub len: usize,
     pub bytes: [u8; 256],
+    pub missed: bool,
 }
 
 // The bench after a request, what the master made of the reply, and the reply.
@@ -35,10 +36,11 @@ pub struct Exchange {
     pub reply: Reply,
 }
 
-pub fn no_reply() -> Reply {
+pub fn no_reply(missed: bool) -> Reply {
     Reply {
         len: 0,
         bytes: [0u8; 256],
+        missed,
     }
 }
 
@@ -86,7 +88,7 @@ fn reply_address(own: Address, sent: u8) -> u8 {
 fn arrived(d: Bench, mut out: [u8; 256], n: usize, verbose: bool, at: u8) -> Reply {
     let bus = d.bus();
     if 256 < n {
-        return no_reply();
+        return no_reply(false);
     }
     if verbose {
         match bus {
@@ -99,7 +101,11 @@ fn arrived(d: Bench, mut out: [u8; 256], n: usize, verbose: bool, at: u8) -> Rep
         }
     }
     damage(&mut out[0..n], d.reply.due());
-    Reply { len: n, bytes: out }
+    Reply {
+        len: n,
+        bytes: out,
+        missed: false,
+    }
 }
 
 // The master's I²C read at an address.
@@ -111,11 +117,11 @@ pub fn read_reply(d: Bench, verbose: bool, at: u8, memory: &[u8]) -> Reply {
         Outcome::Reply(n) => arrived(d, out, n, verbose, at),
         Outcome::Nothing => {
             meaning::tell_no_read();
-            no_reply()
+            no_reply(true)
         }
         _ => {
             meaning::tell_number(board_number(outcome) as usize);
-            no_reply()
+            no_reply(true)
         }
     }
 }
@@ -165,8 +171,7 @@ fn fetched(d: Bench, asked: Asked, c: Called, memory: &[u8]) -> Reply {
     let outcome = c.outcome;
     let v = c.verdict;
     let Outcome::Reply(n) = outcome else {
-        meaning::tell_answer(outcome, v, asked.code);
-        return no_reply();
+        return no_reply(meaning::tell_answer(outcome, v, asked.code));
     };
     let bus = asked.bus;
     let out = c.out;
@@ -212,7 +217,7 @@ fn deliver(d: Bench, asked: Asked, frame: &[u8], memory: &mut [u8]) -> Exchange 
     tell_since(asked.verbose, d, c.state, memory);
     let outcome = c.outcome;
     Exchange {
-        bench: now.after_reply(reply_length(outcome)),
+        bench: now.after_reply(reply_length(outcome), reply.missed),
         result,
         reply,
     }

@@ -19,7 +19,7 @@ fn unsent(d: Bench) -> Exchange {
     Exchange {
         bench: d,
         result: no_result(),
-        reply: no_reply(),
+        reply: no_reply(false),
     }
 }
 
@@ -45,6 +45,11 @@ fn encode(
     )
 }
 
+// How many bytes lie between two places.
+fn data_length(from: usize, end: usize) -> usize {
+    if end < from { 0 } else { end - from }
+}
+
 // A request that the master makes and sends. A write's data are the bytes of the image from one place to another.
 pub fn request(
     d: Bench,
@@ -57,7 +62,8 @@ pub fn request(
     let mut frame = [0u8; 512];
     let e = encode(d, r, from, end, memory, &mut frame);
     let Encoded::Made(n) = e else {
-        meaning::tell_unmade(e);
+        let bus = d.bus();
+        meaning::tell_unmade(e, bus, d.profile.longest, r, d.to, data_length(from, end));
         return unsent(d);
     };
     if 512 < n {

@@ -93,9 +93,34 @@ pub fn say_byte(b: u8) {
     io::print_hex(STDOUT_FILENO, b as u64, 2);
 }
 
-// Says a flash address in four hexadecimal digits.
+// What stands before a number so that it ends at the fifth place.
+fn padding(n: usize) -> usize {
+    if n < 10 {
+        return 0;
+    }
+    if n < 100 {
+        return 1;
+    }
+    if n < 1000 {
+        return 2;
+    }
+    if n < 10000 { 3 } else { 4 }
+}
+
+// Says a flash address, as wide as the largest.
 pub fn say_address(a: usize) {
-    io::print_hex(STDOUT_FILENO, a as u64, 4);
+    say_piece(padding(a), b"    |   |  | |");
+    say_number(a);
+}
+
+// Says a word; of a long one its beginning.
+pub fn say_word(s: &[u8]) {
+    if 40 < s.len() {
+        say(&s[0..40]);
+        say(b"..");
+    } else {
+        say(s);
+    }
 }
 
 // Says what stands before byte i: nothing, a blank, or a new line.

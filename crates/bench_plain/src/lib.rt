@@ -4,6 +4,7 @@ use bench_exchange::bench::FIRST_ADDRESS;
 use bench_exchange::requests::command;
 use bench_exchange::requests::general;
 use bench_exchange::requests::request;
+use bench_script::fields::is_end;
 use bench_words::PlainWord;
 use rules::requests::Request;
 
@@ -38,7 +39,7 @@ fn run_word(d: Bench, word: PlainWord, memory: &mut [u8]) -> Bench {
 
 // A line of one word, after which nothing may follow.
 pub fn run_line(d: Bench, word: PlainWord, s: &[u8], memory: &mut [u8]) -> Bench {
-    if s.len() != 0 {
+    if !is_end(s) {
         return d.refused(b"nothing after this word");
     }
     run_word(d, word, memory)

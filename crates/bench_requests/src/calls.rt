@@ -11,9 +11,11 @@ use bench_exchange::requests::waiting;
 use bench_output::as_usize;
 use bench_output::tell;
 use bench_script::fields::Parsed;
+use bench_script::fields::fault;
 use bench_script::fields::first;
 use bench_script::fields::hex;
 use bench_script::fields::is;
+use bench_script::fields::is_end;
 use bench_script::fields::number;
 use bench_script::fields::rest;
 use bench_script::image::after_data;
@@ -29,15 +31,21 @@ const RAW: usize = 1024;
 
 // `ADDRESS type TYPE`: the request; Plain(0) for wrong ones.
 fn set_address_request(s: &[u8]) -> Request {
-    let new = number(first(s), 65535);
+    let new = number(b"address", first(s), 0, 65535);
     let Parsed::Value(address) = new else {
         return Request::Plain(0);
     };
     let more = rest(s);
     if !is(first(more), b"type") {
+        fault(
+            b"set-address",
+            first(more),
+            b": the word type and a number follow the address\n",
+            0,
+        );
         return Request::Plain(0);
     }
-    let kind = number(rest(more), 65535);
+    let kind = number(b"type", rest(more), 0, 65535);
     let Parsed::Value(hardware) = kind else {
         return Request::Plain(0);
     };
@@ -46,11 +54,11 @@ fn set_address_request(s: &[u8]) -> Request {
 
 // `ADDRESS LENGTH`: the request; Plain(0) for wrong ones.
 fn read_request(s: &[u8]) -> Request {
-    let place = number(first(s), 100000);
+    let place = number(b"address", first(s), 0, 100000);
     let Parsed::Value(address) = place else {
         return Request::Plain(0);
     };
-    let count = number(rest(s), 100000);
+    let count = number(b"length", rest(s), 0, 100000);
     let Parsed::Value(length) = count else {
         return Request::Plain(0);
     };
@@ -89,25 +97,28 @@ fn read(d: Bench, s: &[u8], memory: &mut [u8]) -> Bench {
 
 // The address in front of a write's data, if they end the line.
 fn write_address(s: &[u8]) -> Parsed {
-    if 0 < after_data(rest(s)).len() {
+    if !is_end(after_data(rest(s))) {
         return Parsed::Wrong;
     }
-    number(first(s), 100000)
+    number(b"address", first(s), 0, 100000)
 }
 
-fn write_wrong(d: Bench) -> Bench {
-    d.refused(b"write ADDRESS and then HEX, fill BYTE COUNT or file NAME, and nothing more")
+fn write_wrong(d: Bench, got: Parsed) -> Bench {
+    d.refused_data(
+        got,
+        b"write ADDRESS and then HEX, fill BYTE COUNT or file NAME, and nothing more",
+    )
 }
 
 // `write ADDRESS DATA`
 fn write(d: Bench, s: &[u8], memory: &mut [u8]) -> Bench {
     let place = write_address(s);
     let Parsed::Value(address) = place else {
-        return write_wrong(d);
+        return write_wrong(d, place);
     };
     let got = load_data(rest(s), memory);
     let Parsed::Value(n) = got else {
-        return write_wrong(d);
+        return write_wrong(d, got);
     };
     let asked = command(d, 0x06, 0, true);
     let done = request(d, Request::Write { address }, asked, 0, n, memory);
@@ -137,12 +148,13 @@ fn beside(d: Bench) -> usize {
 // `send BYTES`: address and frame, as they are.
 fn raw(d: Bench, s: &[u8], memory: &mut [u8]) -> Bench {
     let mut bytes = [0u8; RAW];
-    let got = hex(s, &mut bytes);
+    let got = hex(b"bytes", s, &mut bytes);
     let Parsed::Value(n) = got else {
         return d.refused(b"send ADDRESS BYTES, all in hexadecimal digits, as: send 08 00f3");
     };
     let start = beside(d);
     if n < 1 {
+        fault(b"send", s, b": the address is missing\n", 0);
         return d.refused(b"send ADDRESS BYTES: at least the address");
     }
     if RAW < n {
@@ -159,9 +171,10 @@ fn i2c_read_at(d: Bench, at: usize, memory: &[u8]) -> Bench {
     let asked = command(d, d.code, d.asked, true);
     let r = read_reply(d, true, (at % 256) as u8, memory);
     let n = r.len;
+    let missed = r.missed;
     let result = decoded(asked, r);
     tell_waiting_after(result.status == 0, waiting(d));
-    d.after_reply(n)
+    d.after_reply(n, missed)
 }
 
 // `i2c-read`, `i2c-read ADDRESS`
@@ -169,7 +182,7 @@ fn i2c_read(d: Bench, s: &[u8], memory: &[u8]) -> Bench {
     if s.len() == 0 {
         return i2c_read_at(d, d.to, memory);
     }
-    let given = number(s, 255);
+    let given = number(b"address", s, 0, 255);
     let Parsed::Value(at) = given else {
         return d.refused(b"i2c-read, or i2c-read ADDRESS");
     };

@@ -14,6 +14,7 @@ use bench_output::say_count;
 use bench_output::tell;
 use bench_output::tell_all;
 use bench_script::fields::Parsed;
+use bench_script::fields::fault;
 use bench_script::fields::first;
 use bench_script::fields::is;
 use bench_script::fields::number;
@@ -22,7 +23,8 @@ use bench_script::image::after_data;
 use bench_wording::alarm::tell_broken_off;
 use bench_wording::alarm::tell_waiting;
 use bench_wording::alarm::tell_waiting_after;
-use rules::kinds::Bus;
+use bench_wording::meaning::longest_data;
+use bench_wording::meaning::longest_read;
 use rules::requests::Request;
 use upload_ends::UploadEnd;
 
@@ -126,15 +128,11 @@ fn send_all(d: Bench, piece: usize, all: usize, memory: &mut [u8]) -> Sent {
     s
 }
 
-// The most bytes that one read gives.
-fn longest_read(d: Bench) -> usize {
+// The most bytes that one read gives, at least one.
+fn most_read(d: Bench) -> usize {
     let bus = d.bus();
-    let longest = d.profile.longest;
-    let head = match bus {
-        Bus::I2c => 3,
-        Bus::Rs485 => 5,
-    };
-    if longest <= head { 1 } else { longest - head }
+    let most = longest_read(bus, d.profile.longest);
+    if most == 0 { 1 } else { most }
 }
 
 // One read, compared with what was sent.
@@ -159,7 +157,7 @@ fn read_piece(d: Bench, at: usize, end: usize, memory: &mut [u8]) -> Sent {
 
 // The whole image, read back.
 fn read_all(d: Bench, all: usize, memory: &mut [u8]) -> Sent {
-    let most = longest_read(d);
+    let most = most_read(d);
     let mut s = Sent {
         bench: d,
         fine: true,
@@ -255,32 +253,47 @@ fn upload(d: Bench, piece: usize, n: usize, memory: &mut [u8]) -> Bench {
     upload_begun(ready, piece, n, memory)
 }
 
-// The length of the pieces.
-fn pieces(s: &[u8]) -> Parsed {
+// The length of the pieces: as much as a write to this board carries.
+fn pieces(d: Bench, s: &[u8]) -> Parsed {
+    let bus = d.bus();
     if is(first(s), b"frames") {
-        return number(rest(s), 252);
+        return number(b"frames", rest(s), 1, longest_data(bus, d.profile.longest));
     }
-    Parsed::Wrong
+    fault(
+        b"upload",
+        first(s),
+        b": the word frames and a number follow the bytes\n",
+        0,
+    )
 }
 
-fn wrong(d: Bench) -> Bench {
-    d.refused(
-        b"upload and then HEX, fill BYTE COUNT or file NAME, then frames N: at least one byte, N of them in a frame, 1 to 252",
+fn wrong(d: Bench, got: Parsed) -> Bench {
+    d.refused_data(
+        got,
+        b"upload and then HEX, fill BYTE COUNT or file NAME, then frames N: at least one byte, N of them in a frame",
+    )
+}
+
+// An image without bytes.
+fn no_bytes(d: Bench) -> Bench {
+    wrong(
+        d,
+        fault(b"upload", b"", b": an image has at least one byte\n", 0),
     )
 }
 
 // What follows `upload`: `DATA frames N`
 pub fn run_line(d: Bench, s: &[u8], memory: &mut [u8]) -> Bench {
-    let length = pieces(after_data(s));
+    let length = pieces(d, after_data(s));
     let Parsed::Value(piece) = length else {
-        return wrong(d);
+        return wrong(d, length);
     };
     let got = load_data(s, memory);
     let Parsed::Value(n) = got else {
-        return wrong(d);
+        return wrong(d, got);
     };
-    if piece == 0 || n == 0 {
-        return wrong(d);
+    if n == 0 {
+        return no_bytes(d);
     }
     upload(d, piece, n, memory)
 }

@@ -1,5 +1,7 @@
 // Bytes that a line gives: one byte many times, a file, or digits. They are put at the start of a lent buffer.
 use crate::fields::Parsed;
+use crate::fields::are_digits;
+use crate::fields::fault;
 use crate::fields::first;
 use crate::fields::hex;
 use crate::fields::hex_byte;
@@ -7,6 +9,7 @@ use crate::fields::is;
 use crate::fields::number;
 use crate::fields::rest;
 use bench_output::say;
+use bench_output::say_word;
 
 // Sets the first n bytes, or all if there are fewer.
 pub fn fill(s: &mut [u8], n: usize, b: u8) {
@@ -22,41 +25,94 @@ pub fn fill(s: &mut [u8], n: usize, b: u8) {
 
 // `BYTE COUNT`
 fn fill_data(s: &[u8], out: &mut [u8]) -> Parsed {
-    let byte = hex_byte(first(s));
+    let byte = hex_byte(b"fill", first(s));
     let Parsed::Value(b) = byte else {
-        return Parsed::Wrong;
+        return byte;
     };
-    let count = number(first(rest(s)), 65535);
+    let count = number(b"count", first(rest(s)), 0, 65535);
     let Parsed::Value(n) = count else {
-        return Parsed::Wrong;
+        return count;
     };
     fill(out, n, (b % 256) as u8);
-    Parsed::Value(n)
+    count
 }
 
-// Says what is wrong with a file.
-fn no_file(name: &[u8], what: &[u8]) -> Parsed {
-    say(b"  the file ");
-    say(name);
-    say(what);
-    Parsed::Wrong
+// Says why a file cannot be used; a `%` in the reason is the limit.
+fn unusable(name: &[u8], reason: &[u8], limit: usize) -> Parsed {
+    fault(b"the file", name, reason, limit);
+    Parsed::Unusable
+}
+
+// A file that was not opened.
+fn unopened(name: &[u8], error: i32) -> Parsed {
+    if error == libc::ENOENT {
+        return unusable(name, b" is not there\n", 0);
+    }
+    if error == libc::EACCES {
+        return unusable(name, b" may not be read\n", 0);
+    }
+    unusable(name, b" cannot be opened\n", 0)
+}
+
+// A file that gave no byte: at its end the next read gives none either, of a folder it fails.
+fn unread(name: &[u8], got: isize) -> Parsed {
+    if got < 0 {
+        return unusable(name, b" is a folder, or cannot be read\n", 0);
+    }
+    unusable(name, b" is empty\n", 0)
+}
+
+// Whether a text begins as a record of Intel HEX does: a colon, then eight digits at least.
+fn is_intel_hex(s: &[u8]) -> bool {
+    if s.len() < 9 {
+        return false;
+    }
+    s[0] == b':'
+        && are_digits(s[1], s[2])
+        && are_digits(s[3], s[4])
+        && are_digits(s[5], s[6])
+        && are_digits(s[7], s[8])
+}
+
+// A file of text that is given for one of bytes.
+fn tell_text_file(name: &[u8]) {
+    say(b"  ** the file ");
+    say_word(name);
+    say(
+        b" looks like Intel HEX: its characters are taken as the image's bytes **
+    do: make a binary file of it first, as with: objcopy -I ihex -O binary NAME.hex NAME.bin
+",
+    );
+}
+
+// The n bytes that a file gave, if they are fewer than the buffer has.
+fn given(name: &[u8], out: &[u8], n: usize) -> Parsed {
+    if out.len() <= n {
+        return unusable(name, b" is too long: it has % bytes or more\n", n);
+    }
+    if is_intel_hex(&out[0..n]) {
+        tell_text_file(name);
+    }
+    Parsed::Value(n)
 }
 
 // A whole file, if it has bytes and fewer than the buffer.
 pub fn file(name: &[u8], out: &mut [u8]) -> Parsed {
+    if name.len() == 0 {
+        return fault(b"file", name, b": the name is missing\n", 0);
+    }
     let fd = os::open_read(name);
     if fd < 0 {
-        return no_file(name, b" cannot be opened\n");
+        return unopened(name, os::errno());
     }
     let n = io::read_full(fd, out);
+    let mut more = [0u8; 1];
+    let got = libc::read(fd, &mut more);
     libc::close(fd);
     if n == 0 {
-        return no_file(name, b" is empty, or no file\n");
+        return unread(name, got);
     }
-    if out.len() <= n {
-        return no_file(name, b" is too long\n");
-    }
-    Parsed::Value(n)
+    given(name, out, n)
 }
 
 // How a line gives bytes: `fill BYTE COUNT`, `file NAME`, or digits.
@@ -85,9 +141,9 @@ pub fn data(s: &[u8], out: &mut [u8]) -> Parsed {
         DataKind::File => file(first(rest(s)), out),
         DataKind::Digits => {
             if word.len() == 0 {
-                return Parsed::Wrong;
+                return fault(b"bytes", word, b": none are given\n", 0);
             }
-            hex(word, out)
+            hex(b"bytes", word, out)
         }
     }
 }

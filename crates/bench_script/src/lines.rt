@@ -63,6 +63,23 @@ pub fn clean(s: &mut [u8]) {
     }
 }
 
+// Without the byte order mark that some editors put in front of a text.
+pub fn without_mark<'a>(s: &'a [u8]) -> &'a [u8] {
+    if s.len() < 3 {
+        return s;
+    }
+    if s[0] != 0xef {
+        return s;
+    }
+    if s[1] != 0xbb {
+        return s;
+    }
+    if s[2] != 0xbf {
+        return s;
+    }
+    &s[3..]
+}
+
 // A comment or an empty line.
 pub fn is_comment(s: &[u8]) -> bool {
     if s.len() == 0 {

@@ -5,6 +5,7 @@ use bench_exchange::bench::default_profile;
 use bench_exchange::memory::restart_map;
 use bench_exchange::requests::lost_with_board;
 use bench_script::fields::Parsed;
+use bench_script::fields::fault;
 use bench_script::fields::first;
 use bench_script::fields::hex;
 use bench_script::fields::is;
@@ -14,19 +15,16 @@ use bench_script::fields::second;
 use bench_wording::alarm::tell_lost;
 use profile::Profile;
 use rules::kinds::Bus;
+use state::State;
 
 // A name in a `board` line.
 enum Field {
-    Size(SizeField),
-    Byte(ByteField),
-    Serial,
-    Unknown,
-}
-
-enum SizeField {
     Longest,
     Size,
     Offset,
+    Byte(ByteField),
+    Serial,
+    Unknown,
 }
 
 enum ByteField {
@@ -39,13 +37,13 @@ enum ByteField {
 // The field with this name.
 fn field_named(name: &[u8]) -> Field {
     if is(name, b"M") {
-        return Field::Size(SizeField::Longest);
+        return Field::Longest;
     }
     if is(name, b"S") {
-        return Field::Size(SizeField::Size);
+        return Field::Size;
     }
     if is(name, b"O") {
-        return Field::Size(SizeField::Offset);
+        return Field::Offset;
     }
     if is(name, b"type") {
         return Field::Byte(ByteField::Hardware);
@@ -85,9 +83,14 @@ fn right(p: Profile) -> Described {
     }
 }
 
+fn unknown(p: Profile, name: &[u8]) -> Described {
+    fault(b"board", name, b": a board has nothing of that name\n", 0);
+    wrong(p)
+}
+
 fn with_serial(mut p: Profile, value: &[u8]) -> Described {
     let mut bytes = [0u8; 16];
-    let got = hex(value, &mut bytes);
+    let got = hex(b"serial", value, &mut bytes);
     let Parsed::Value(n) = got else {
         return wrong(p);
     };
@@ -96,23 +99,56 @@ fn with_serial(mut p: Profile, value: &[u8]) -> Described {
     right(p)
 }
 
-// M, S and O. A size may be out of its range: the board's calls say so.
-fn with_size(mut p: Profile, field: SizeField, value: &[u8]) -> Described {
-    let size = number(value, 1000000);
-    let Parsed::Value(n) = size else {
+fn with_longest(mut p: Profile, value: &[u8]) -> Described {
+    let got = number(b"M", value, 32, State::LARGEST_FRAME);
+    let Parsed::Value(n) = got else {
         return wrong(p);
     };
-    match field {
-        SizeField::Longest => p.longest = n,
-        SizeField::Size => p.size = n,
-        SizeField::Offset => p.offset = n,
-    }
+    p.longest = n;
     right(p)
 }
 
+// S or O: a number of whole pages.
+fn paged(name: &[u8], value: &[u8], least: usize) -> Parsed {
+    let got = number(name, value, least, State::LARGEST_FLASH);
+    let Parsed::Value(n) = got else {
+        return got;
+    };
+    if n % State::PAGE != 0 {
+        return fault(name, value, b": a multiple of %\n", State::PAGE);
+    }
+    got
+}
+
+fn with_size(mut p: Profile, value: &[u8]) -> Described {
+    let got = paged(b"S", value, State::PAGE);
+    let Parsed::Value(n) = got else {
+        return wrong(p);
+    };
+    p.size = n;
+    right(p)
+}
+
+fn with_offset(mut p: Profile, value: &[u8]) -> Described {
+    let got = paged(b"O", value, 0);
+    let Parsed::Value(n) = got else {
+        return wrong(p);
+    };
+    p.offset = n;
+    right(p)
+}
+
+// The least value of a field of one byte: a hardware type is not 0.
+fn least_byte(field: ByteField) -> usize {
+    match field {
+        ByteField::Hardware => 1,
+        _ => 0,
+    }
+}
+
 // Type, compatible and actual revision, bootloader version.
-fn with_byte(mut p: Profile, field: ByteField, value: &[u8]) -> Described {
-    let byte = number(value, 255);
+fn with_byte(mut p: Profile, field: ByteField, name: &[u8], value: &[u8]) -> Described {
+    let byte = number(name, value, least_byte(field), 255);
     let Parsed::Value(n) = byte else {
         return wrong(p);
     };
@@ -130,10 +166,12 @@ fn with_byte(mut p: Profile, field: ByteField, value: &[u8]) -> Described {
 fn with(p: Profile, name: &[u8], value: &[u8]) -> Described {
     let field = field_named(name);
     match field {
-        Field::Size(f) => with_size(p, f, value),
-        Field::Byte(f) => with_byte(p, f, value),
+        Field::Longest => with_longest(p, value),
+        Field::Size => with_size(p, value),
+        Field::Offset => with_offset(p, value),
+        Field::Byte(f) => with_byte(p, f, name, value),
         Field::Serial => with_serial(p, value),
-        Field::Unknown => wrong(p),
+        Field::Unknown => unknown(p, name),
     }
 }
 
@@ -178,6 +216,7 @@ fn on_bus(s: &[u8]) -> Described {
     if is(first(s), b"rs485") {
         return with_all(default_profile(Bus::Rs485), rest(s));
     }
+    fault(b"board", first(s), b": i2c or rs485 follows\n", 0);
     wrong(default_profile(Bus::I2c))
 }
 

@@ -8,6 +8,7 @@ use bench_output::say;
 use bench_output::say_count;
 use bench_output::tell;
 use bench_script::fields::Parsed;
+use bench_script::fields::fault;
 use bench_script::fields::first;
 use bench_script::fields::hex_byte;
 use bench_script::fields::is;
@@ -20,7 +21,7 @@ use bench_words::SetupWord;
 
 // `flash fill BYTE`
 fn flash_fill(d: Bench, value: &[u8], memory: &mut [u8]) -> Bench {
-    let byte = hex_byte(value);
+    let byte = hex_byte(b"fill", value);
     let Parsed::Value(b) = byte else {
         return d.refused(b"flash fill BYTE: the byte in two hexadecimal digits, as ff");
     };
@@ -33,7 +34,10 @@ fn flash_fill(d: Bench, value: &[u8], memory: &mut [u8]) -> Bench {
 fn flash_file(d: Bench, name: &[u8], memory: &mut [u8]) -> Bench {
     let got = memory::load_file(name, memory);
     let Parsed::Value(n) = got else {
-        return d.refused(b"flash file NAME: a file that can be read, at most 131072 bytes");
+        return d.refused_data(
+            got,
+            b"flash file NAME: a file that can be read, at most 131072 bytes",
+        );
     };
     memory::load_flash(memory, n);
     tell(b"  bytes of flash as in the file: %\n", n);
@@ -41,18 +45,23 @@ fn flash_file(d: Bench, name: &[u8], memory: &mut [u8]) -> Bench {
     d
 }
 
+fn flash_wrong(d: Bench, word: &[u8]) -> Bench {
+    fault(b"flash", word, b": fill or file follows\n", 0);
+    d.refused(b"flash fill BYTE, or flash file NAME")
+}
+
 fn set_flash(d: Bench, s: &[u8], memory: &mut [u8]) -> Bench {
     let kind = data_kind(first(s));
     match kind {
         DataKind::Fill => flash_fill(d, rest(s), memory),
         DataKind::File => flash_file(d, rest(s), memory),
-        DataKind::Digits => d.refused(b"flash fill BYTE, or flash file NAME"),
+        DataKind::Digits => flash_wrong(d, first(s)),
     }
 }
 
 // `to ADDRESS`
 fn set_destination(d: Bench, s: &[u8]) -> Bench {
-    let address = number(s, 255);
+    let address = number(b"to", s, 0, 255);
     let Parsed::Value(a) = address else {
         return d.refused(b"to ADDRESS: a number to 255");
     };
@@ -60,9 +69,9 @@ fn set_destination(d: Bench, s: &[u8]) -> Bench {
     d.sending_to(a)
 }
 
-// What follows `damage byte` or `damage reply`: `N`, or `N after K`.
-fn read_damage(s: &[u8]) -> Damage {
-    let count = number(first(s), 300);
+// What follows `damage byte` or `damage reply`, which is `name`: `N`, or `N after K`.
+fn read_damage(name: &[u8], s: &[u8]) -> Damage {
+    let count = number(name, first(s), 1, 300);
     let Parsed::Value(byte) = count else {
         return Damage::none();
     };
@@ -71,30 +80,19 @@ fn read_damage(s: &[u8]) -> Damage {
         return Damage { byte, after: 0 };
     }
     if !is(first(more), b"after") {
+        fault(
+            name,
+            more,
+            b": only the word after and a number may follow\n",
+            0,
+        );
         return Damage::none();
     }
-    let passing = number(rest(more), 10000);
+    let passing = number(b"after", rest(more), 0, 10000);
     let Parsed::Value(after) = passing else {
         return Damage::none();
     };
     Damage { byte, after }
-}
-
-// `byte` or `reply`: what is damaged.
-enum Target {
-    Frame,
-    Reply,
-    Unknown,
-}
-
-fn target_named(what: &[u8]) -> Target {
-    if is(what, b"byte") {
-        return Target::Frame;
-    }
-    if is(what, b"reply") {
-        return Target::Reply;
-    }
-    Target::Unknown
 }
 
 // Says which byte will be damaged, and how many frames or replies pass before that.
@@ -107,7 +105,12 @@ fn tell_damage(hit: Damage, text: &[u8]) {
     say(b"\n");
 }
 
-fn damage_frame(d: Bench, hit: Damage) -> Bench {
+// `damage byte N`
+fn damage_frame(d: Bench, s: &[u8]) -> Bench {
+    let hit = read_damage(b"byte", s);
+    if hit.byte == 0 {
+        return damage_wrong(d);
+    }
     tell_damage(
         hit,
         b"  byte % of the next frame will be damaged on its way",
@@ -115,7 +118,12 @@ fn damage_frame(d: Bench, hit: Damage) -> Bench {
     d.with_frame_damage(hit)
 }
 
-fn damage_reply(d: Bench, hit: Damage) -> Bench {
+// `damage reply N`
+fn damage_reply(d: Bench, s: &[u8]) -> Bench {
+    let hit = read_damage(b"reply", s);
+    if hit.byte == 0 {
+        return damage_wrong(d);
+    }
     tell_damage(
         hit,
         b"  byte % of the next reply will be damaged on its way",
@@ -129,18 +137,15 @@ fn damage_wrong(d: Bench) -> Bench {
     )
 }
 
-// `damage byte N`, `damage reply N`
 fn set_damage(d: Bench, s: &[u8]) -> Bench {
-    let hit = read_damage(rest(s));
-    if hit.byte == 0 {
-        return damage_wrong(d);
+    if is(first(s), b"byte") {
+        return damage_frame(d, rest(s));
     }
-    let what = target_named(first(s));
-    match what {
-        Target::Frame => damage_frame(d, hit),
-        Target::Reply => damage_reply(d, hit),
-        Target::Unknown => damage_wrong(d),
+    if is(first(s), b"reply") {
+        return damage_reply(d, rest(s));
     }
+    fault(b"damage", first(s), b": byte or reply follows\n", 0);
+    damage_wrong(d)
 }
 
 // What follows `board`, `flash`, `to` or `damage`.

@@ -10,6 +10,7 @@ use bench_output::say_address;
 use bench_output::say_count;
 use bench_output::tell;
 use bench_output::tell_all;
+use bench_script::fields::is_end;
 use bench_wording::alarm::tell_waiting;
 use bench_words::ShowWord;
 use profile::Profile;
@@ -122,7 +123,7 @@ fn show_map(d: Bench, memory: &[u8]) {
 
 fn show_help() {
     say(
-        b"  Numbers are decimal; bytes, HEX and BYTE are hexadecimal digits. The first byte of a frame is byte 1.
+        b"  Numbers are decimal, or hexadecimal behind 0x; bytes, HEX and BYTE are hexadecimal digits. The first byte of a frame is byte 1.
   board i2c|rs485 [M n] [S n] [O n] [type n] [compatible n] [actual n] [bootloader n] [serial HEX]
   flash fill BYTE | flash file NAME              the flash that the board is lent
   version | info | serial | revision | longest   ask the board
@@ -134,13 +135,13 @@ fn show_help() {
   send ADDRESS BYTES                             a frame as it is, all in hexadecimal: send 08 00f3
   i2c-read [ADDRESS]                             read the last reply once more
   damage byte N | damage reply N  [after K]      of the next frame, of the next reply, or after K of them
-  state | map | say TEXT | help | # a comment
+  state | map | say TEXT | help | quit | # a comment
 ",
     );
 }
 
 // `state`, `map` or `help`.
-pub fn run_line(d: Bench, word: ShowWord, memory: &[u8]) {
+fn show(d: Bench, word: ShowWord, memory: &[u8]) {
     match word {
         ShowWord::State => show_state(d),
         ShowWord::Map => show_map(d, memory),
@@ -148,9 +149,18 @@ pub fn run_line(d: Bench, word: ShowWord, memory: &[u8]) {
     }
 }
 
+// A line that shows, after which nothing may follow.
+pub fn run_line(d: Bench, word: ShowWord, s: &[u8], memory: &[u8]) -> Bench {
+    if !is_end(s) {
+        return d.refused(b"nothing after this word");
+    }
+    show(d, word, memory);
+    d
+}
+
 fn tell_still_waiting(n: usize) {
     if 0 < n {
-        say(b"the script ends\n");
+        say(b"  the script ends\n");
         tell_waiting(n);
     }
 }
@@ -167,29 +177,42 @@ fn tell_times(before: &[u8], n: usize, thing: &[u8], after: &[u8]) {
 fn tell_wrong(wrong: usize, lines: usize) {
     if 0 < wrong {
         tell_all(
-            b"** % of % lines were not understood **\n",
+            b"  ** lines that were not understood or not done: % of % **\n",
             [wrong, lines, 0, 0, 0],
         );
     }
 }
 
-// Says at the end what still waits, what was lost, what failed, and how many lines were not understood.
+// Says at the end what still waits, what was lost, what got no reply, what failed, and how many lines were not understood.
 pub fn tell_end(d: Bench) {
     tell_still_waiting(waiting(d));
-    tell_times(b"** accepted bytes were lost ", d.losses, b"time", b" **\n");
-    tell_times(b"** ", d.failures, b"upload", b" failed **\n");
+    tell_times(
+        b"  ** accepted bytes were lost ",
+        d.losses,
+        b"time",
+        b" **\n",
+    );
+    tell_times(
+        b"  ** no reply, and yet no dead board: ",
+        d.silences,
+        b"time",
+        b" **\n",
+    );
+    tell_times(b"  ** ", d.failures, b"upload", b" failed **\n");
     tell_wrong(d.wrong, d.lines);
 }
 
-// The status of the whole script: 1 if a line was not understood, 3 if an upload failed, bytes were lost or still wait, else 0.
+// Whether an alarm stood that a script must not pass over: a failed upload, lost bytes, a silence, or bytes that wait at the end.
+fn alarmed(d: Bench) -> bool {
+    0 < d.losses || 0 < d.silences || 0 < d.failures || 0 < waiting(d)
+}
+
+// The status of the whole script: 1 if a line was not understood, 3 if an alarm stood, else 0.
 pub fn status(d: Bench) -> usize {
     if 0 < d.wrong {
         return 1;
     }
-    if 0 < d.losses || 0 < d.failures {
-        return 3;
-    }
-    if 0 < waiting(d) { 3 } else { 0 }
+    if alarmed(d) { 3 } else { 0 }
 }
 
 // Shows a line of the script, with what stands before it.

@@ -23,7 +23,7 @@ pub fn tell_lost(n: usize) {
         b"  ** % accepted bytes are lost: they neither wait nor stand in flash **\n",
     );
     say(
-        b"    do: write them again, and finalize before a start, a reset, another board or a new write at 0\n",
+        b"    do: write again what is lost, and finalize before a start, a reset, another board or a new write at 0\n",
     );
 }
 

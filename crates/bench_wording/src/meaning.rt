@@ -4,6 +4,9 @@ use bench_output::as_usize;
 use bench_output::say;
 use bench_output::say_piece;
 use bench_output::tell;
+use bench_output::tell_all;
+use frame_sizes::shortest_reply;
+use frame_sizes::shortest_request;
 use numbers::board_number;
 use numbers::decoded_number;
 use numbers::encoded_number;
@@ -12,6 +15,7 @@ use rules::kinds::Outcome;
 use rules::kinds::Verdict;
 use rules::requests::Decoded;
 use rules::requests::Encoded;
+use rules::requests::Request;
 
 // A number with its meaning, and what to do about it. Piece n is number n's.
 pub fn tell_number(n: usize) {
@@ -24,7 +28,6 @@ pub fn tell_number(n: usize) {
 |  number 5, reply buffer shorter than M\n    do: lend at least M bytes
 |  number 6, the request does not fit the lent output\n    do: lend more bytes
 |  number 7, request argument out of range, or a command that is not served
-    do: look at command, addresses, type and lengths: this bus, or M, does not allow one of them
 |  number 8, the reply is too short
 |  number 9, the reply's check sum is wrong
 |  number 10, the reply is from another address
@@ -122,22 +125,26 @@ fn tell_done(piece: usize) {
     }
 }
 
-// Why a call answers 1.
-pub fn tell_silence(v: Verdict, code: usize) {
+// Why a call answers 1; whether that must not be missed.
+fn tell_silence(v: Verdict, code: usize) -> bool {
     tell_number(1);
     let piece = reason(v, code);
     if ignored(v) || piece == 6 {
         tell_ignored(piece);
-    } else {
-        tell_done(piece);
+        return true;
     }
+    tell_done(piece);
+    false
 }
 
-// A board call that made no reply.
-pub fn tell_answer(o: Outcome, v: Verdict, code: usize) {
+// A board call that made no reply; whether that must not be missed.
+pub fn tell_answer(o: Outcome, v: Verdict, code: usize) -> bool {
     match o {
         Outcome::Nothing => tell_silence(v, code),
-        _ => tell_number(board_number(o) as usize),
+        _ => {
+            tell_number(board_number(o) as usize);
+            true
+        }
     }
 }
 
@@ -152,9 +159,83 @@ pub fn tell_no_read() {
     );
 }
 
-// A request that the master did not make.
-pub fn tell_unmade(e: Encoded) {
+// A limit that a request breaks: whether it does. The text has a `%` for the number, and one for the limit.
+fn is_over(text: &[u8], n: usize, most: usize) -> bool {
+    if n <= most {
+        return false;
+    }
+    tell_all(text, [n, most, 0, 0, 0]);
+    true
+}
+
+// The largest address on a bus.
+fn last_address(bus: Bus) -> usize {
+    match bus {
+        Bus::I2c => 127,
+        Bus::Rs485 => 255,
+    }
+}
+
+// How many of `longest` bytes are left beside so many others.
+fn beside(longest: usize, others: usize) -> usize {
+    if longest < others {
+        0
+    } else {
+        longest - others
+    }
+}
+
+// The most data bytes that a write to a board carries, beside the flash address.
+pub fn longest_data(bus: Bus, longest: usize) -> usize {
+    beside(beside(longest, shortest_request(bus)), 2)
+}
+
+// The most bytes that one read from a board gives.
+pub fn longest_read(bus: Bus, longest: usize) -> usize {
+    beside(longest, shortest_reply(bus))
+}
+
+// Which argument of a request is out of its range.
+fn tell_argument(bus: Bus, longest: usize, r: Request, n: usize) -> bool {
+    match r {
+        Request::SetAddress { address, hardware } => {
+            is_over(
+                b"    wrong: address %: at most % here\n",
+                address,
+                last_address(bus),
+            )
+                || is_over(b"    wrong: type %: at most %\n", hardware, 255)
+        }
+        Request::Write { address } => {
+            is_over(b"    wrong: flash address %: at most %\n", address, 65535)
+                || is_over(
+                    b"    wrong: % data bytes: at most % here\n",
+                    n,
+                    longest_data(bus, longest),
+                )
+        }
+        Request::Read { address, length } => {
+            is_over(b"    wrong: flash address %: at most %\n", address, 65535)
+                || is_over(
+                    b"    wrong: length %: at most % here\n",
+                    length,
+                    longest_read(bus, longest),
+                )
+        }
+        _ => false,
+    }
+}
+
+// A request that the master did not make: sent to `to`, with n data bytes.
+pub fn tell_unmade(e: Encoded, bus: Bus, longest: usize, r: Request, to: usize, n: usize) {
     tell_number(encoded_number(e) as usize);
+    if to == 0 {
+        say(b"    wrong: address 0 is all boards: a command goes to one of them\n");
+    } else {
+        if !is_over(b"    wrong: to %: at most % here\n", to, last_address(bus)) {
+            tell_argument(bus, longest, r, n);
+        }
+    }
     say(b"  nothing was sent\n");
 }
 
@@ -188,6 +269,9 @@ pub fn tell_undecoded(r: Decoded, bus: Bus, code: usize) {
     let n = decoded_number(r) as usize;
     say(b"  the master:\n");
     tell_number(n);
+    if n == 7 {
+        say(b"    do: send a command that the master knows\n");
+    }
     if 8 <= n && n <= 11 {
         tell_again(bus, code);
     }

@@ -44,6 +44,7 @@ pub enum Word {
     Upload,
     Call(CallWord),
     Plain(PlainWord),
+    Quit,
     Unknown,
 }
 
@@ -59,6 +60,9 @@ fn order_word(word: &[u8]) -> Word {
     }
     if is(word, b"reset-address") {
         return Word::Plain(PlainWord::ResetAddress);
+    }
+    if is(word, b"quit") {
+        return Word::Quit;
     }
     Word::Unknown
 }

@@ -11,8 +11,8 @@ Inv-loop fd line₀ memory₀ d₀ turns₀ line memory d turns = (length line �
 abbrev μ-loop : tie.MeasureT-loop
 μ-loop fd line₀ memory₀ d₀ turns₀ line memory d turns = turns
 
-new-requires : tie.Need-new-requires Inv-loop μ-loop
-new-requires c κs = search needs
+new-bench-requires : tie.Need-new-bench-requires Inv-loop μ-loop
+new-bench-requires c κs = search needs
 
 loop-holds : tie.Need-loop-holds Inv-loop μ-loop
 loop-holds c = search needs
@@ -50,7 +50,7 @@ run-script-spec =
     (tie.spec
     Inv-loop
     μ-loop
-    new-requires
+    new-bench-requires
     loop-holds
     run-next-line-requires
     sub-turns

@@ -11,8 +11,8 @@ Inv-loop all memory₀ most s₀ at₀ turns₀ memory s at turns = length memor
 abbrev μ-loop : tie.MeasureT-loop
 μ-loop all memory₀ most s₀ at₀ turns₀ memory s at turns = turns
 
-longest-read-requires : tie.Need-longest-read-requires Inv-loop μ-loop
-longest-read-requires c κs = search needs
+most-read-requires : tie.Need-most-read-requires Inv-loop μ-loop
+most-read-requires c κs = search needs
 
 loop-holds : tie.Need-loop-holds Inv-loop μ-loop
 loop-holds c = search needs
@@ -50,7 +50,7 @@ read-all-spec =
     (tie.spec
     Inv-loop
     μ-loop
-    longest-read-requires
+    most-read-requires
     loop-holds
     sub-turns
     same-length
