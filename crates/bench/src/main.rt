@@ -3,8 +3,8 @@
 // The lines are listed by `help` and in docs/BENCH.md.
 use crate::run::run_next_line;
 use bench_exchange::bench::Bench;
-use bench_exchange::memory::MEMORY;
-use bench_exchange::memory::fill_flash;
+use bench_memory::memory::MEMORY;
+use bench_memory::memory::fill_flash;
 use bench_output::say;
 use bench_script::fields::is;
 use bench_settings::shown::status;

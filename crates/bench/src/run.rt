@@ -30,16 +30,24 @@ fn quit(d: Bench, s: &[u8]) -> Bench {
     d.at_end()
 }
 
+// A line by which the master makes a request.
+fn run_request(d: Bench, word: Word, s: &[u8], memory: &mut [u8]) -> Bench {
+    match word {
+        Word::Upload => uploads::run_line(d, s, memory),
+        Word::Call(w) => calls::run_line(d, w, s, memory),
+        Word::Plain(w) => bench_plain::run_line(d, w, s, memory),
+        _ => d,
+    }
+}
+
 // Runs a line by its first word, which `name` is.
 fn run_word(d: Bench, word: Word, name: &[u8], s: &[u8], memory: &mut [u8]) -> Bench {
     match word {
         Word::Setup(w) => setup::run_line(d, w, s, memory),
         Word::Show(w) => shown::run_line(d, w, s, memory),
-        Word::Upload => uploads::run_line(d, s, memory),
-        Word::Call(w) => calls::run_line(d, w, s, memory),
-        Word::Plain(w) => bench_plain::run_line(d, w, s, memory),
         Word::Quit => quit(d, s),
         Word::Unknown => unknown(d, name),
+        _ => run_request(d, word, s, memory),
     }
 }
 

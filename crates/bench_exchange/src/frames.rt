@@ -1,14 +1,15 @@
 // One frame to the board, and the board's reply: sent, answered, decoded, and said in words.
 use crate::bench::Bench;
 use crate::library;
-use crate::pages;
+use bench_alarms::alarm;
+use bench_alarms::changes::tell_changes;
+use bench_memory::memory::part;
+use bench_memory::pages;
 use bench_output::as_usize;
 use bench_output::say;
 use bench_output::say_byte;
 use bench_output::say_bytes;
 use bench_output::tell;
-use bench_wording::alarm;
-use bench_wording::changes::tell_changes;
 use bench_wording::meaning;
 use bench_wording::reply::Asked;
 use bench_wording::reply::RequestResult;
@@ -133,7 +134,7 @@ pub fn decoded(asked: Asked, r: Reply) -> RequestResult {
     if n == 0 {
         return no_result();
     }
-    decode_reply(asked, library::part(&bytes, 0, n))
+    decode_reply(asked, part(&bytes, 0, n))
 }
 
 // What the board did with a frame: its answer, and what must not be missed.

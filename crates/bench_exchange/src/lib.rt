@@ -1,7 +1,5 @@
-// A board and a master on one bench: what is remembered between lines, one exchange of frames, and which pages it rewrote.
+// A board and a master on one bench: what is remembered between lines, and one exchange of frames.
 pub mod bench;
 pub mod frames;
 mod library;
-pub mod memory;
-pub mod pages;
 pub mod requests;

@@ -1,9 +1,9 @@
 // The library's calls with empty contracts: the bench only says what they answer.
-use crate::memory::COPY;
-use crate::memory::EARLIER;
-use crate::memory::FLASH;
-use crate::memory::IMAGE;
 use answer::Answer;
+use bench_memory::memory::EARLIER;
+use bench_memory::memory::FLASH;
+use bench_memory::memory::IMAGE;
+use bench_memory::memory::part;
 use profile::Profile;
 use rules::kinds::Bus;
 use rules::kinds::Outcome;
@@ -13,17 +13,6 @@ use rules::requests::Request;
 use state::State;
 use state::Upload;
 use upload_ends::UploadEnd;
-
-// n bytes of the memory from a place on; none where it has not so many.
-pub(crate) fn part<'a>(memory: &'a [u8], at: usize, n: usize) -> &'a [u8] {
-    if memory.len() < at {
-        return &memory[0..0];
-    }
-    if memory.len() - at < n {
-        return &memory[0..0];
-    }
-    &memory[at..at + n]
-}
 
 // A board without flash answers nothing.
 fn unanswered(s: State) -> Answer {
@@ -87,26 +76,6 @@ pub(crate) fn erased_nothing(
     after: Upload,
 ) -> bool {
     alarms::erased_nothing(bus, frame, number, reply, after)
-}
-
-// Whether a page changed since the last call.
-pub(crate) fn page_changed(offset: usize, page: usize, memory: &[u8]) -> bool {
-    upload_ends::page_changed(
-        offset,
-        page,
-        part(memory, COPY, FLASH),
-        part(memory, 0, FLASH),
-    )
-}
-
-// Whether a page changed since the first write of an upload.
-pub(crate) fn page_uploaded(offset: usize, page: usize, memory: &[u8]) -> bool {
-    upload_ends::page_changed(
-        offset,
-        page,
-        part(memory, EARLIER, FLASH),
-        part(memory, 0, FLASH),
-    )
 }
 
 // How an upload of the first n bytes of the image ended.

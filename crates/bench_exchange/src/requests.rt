@@ -4,8 +4,9 @@ use crate::frames::Exchange;
 use crate::frames::no_reply;
 use crate::frames::send;
 use crate::library;
-use crate::memory::FLASH;
-use crate::memory::IMAGE;
+use bench_memory::memory;
+use bench_memory::memory::FLASH;
+use bench_memory::memory::IMAGE;
 use bench_output::min;
 use bench_wording::meaning;
 use bench_wording::reply::Asked;
@@ -40,7 +41,7 @@ fn encode(
         d.profile.longest,
         r,
         d.to,
-        library::part(memory, IMAGE + first, last - first),
+        memory::part(memory, IMAGE + first, last - first),
         frame,
     )
 }
@@ -117,6 +118,6 @@ pub fn is_image(e: Exchange, from: usize, end: usize, memory: &[u8]) -> bool {
     let bytes = e.reply.bytes;
     flash::matches(
         part(&bytes, e.result.start, e.result.len),
-        library::part(memory, IMAGE + first, last - first),
+        memory::part(memory, IMAGE + first, last - first),
     )
 }

@@ -1,13 +1,14 @@
 // Lines by which the master makes a request with arguments, sends a frame as it is, or reads.
+use bench_alarms::alarm::tell_waiting_after;
 use bench_exchange::bench::Bench;
 use bench_exchange::frames::Exchange;
 use bench_exchange::frames::decoded;
 use bench_exchange::frames::read_reply;
 use bench_exchange::frames::send;
-use bench_exchange::memory::load_data;
 use bench_exchange::requests::command;
 use bench_exchange::requests::request;
 use bench_exchange::requests::waiting;
+use bench_memory::memory::load_data;
 use bench_output::as_usize;
 use bench_output::tell;
 use bench_script::fields::Parsed;
@@ -19,7 +20,6 @@ use bench_script::fields::is_end;
 use bench_script::fields::number;
 use bench_script::fields::rest;
 use bench_script::image::after_data;
-use bench_wording::alarm::tell_waiting_after;
 use bench_wording::reply::Asked;
 use bench_wording::reply::one;
 use bench_words::CallWord;

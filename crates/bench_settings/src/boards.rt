@@ -1,9 +1,10 @@
 // `board`: another board, described by names and values in any order.
 use crate::shown::show_profile;
+use bench_alarms::alarm::tell_lost;
 use bench_exchange::bench::Bench;
 use bench_exchange::bench::default_profile;
-use bench_exchange::memory::restart_map;
 use bench_exchange::requests::lost_with_board;
+use bench_memory::memory::restart_map;
 use bench_script::fields::Parsed;
 use bench_script::fields::fault;
 use bench_script::fields::first;
@@ -12,7 +13,6 @@ use bench_script::fields::is;
 use bench_script::fields::number;
 use bench_script::fields::rest;
 use bench_script::fields::second;
-use bench_wording::alarm::tell_lost;
 use profile::Profile;
 use rules::kinds::Bus;
 use state::State;

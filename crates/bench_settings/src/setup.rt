@@ -1,9 +1,10 @@
 // Lines that set the bench up: the board, the flash, where the master sends to, and damage.
 use crate::boards;
+use bench_alarms::alarm::tell_waiting;
 use bench_exchange::bench::Bench;
 use bench_exchange::bench::Damage;
-use bench_exchange::memory;
 use bench_exchange::requests::waiting;
+use bench_memory::memory;
 use bench_output::say;
 use bench_output::say_count;
 use bench_output::tell;
@@ -16,7 +17,6 @@ use bench_script::fields::number;
 use bench_script::fields::rest;
 use bench_script::image::DataKind;
 use bench_script::image::data_kind;
-use bench_wording::alarm::tell_waiting;
 use bench_words::SetupWord;
 
 // `flash fill BYTE`

@@ -1,8 +1,9 @@
 // Lines that show: `state`, `map`, `help`; and what is said when the script ends.
+use bench_alarms::alarm::tell_waiting;
 use bench_exchange::bench::Bench;
-use bench_exchange::memory::PAGES;
-use bench_exchange::pages::times;
 use bench_exchange::requests::waiting;
+use bench_memory::memory::PAGES;
+use bench_memory::pages::times;
 use bench_output::as_usize;
 use bench_output::min;
 use bench_output::say;
@@ -11,7 +12,6 @@ use bench_output::say_count;
 use bench_output::tell;
 use bench_output::tell_all;
 use bench_script::fields::is_end;
-use bench_wording::alarm::tell_waiting;
 use bench_words::ShowWord;
 use profile::Profile;
 use rules::kinds::Address;

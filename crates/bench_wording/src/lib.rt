@@ -1,5 +1,3 @@
-// What answers, replies, changes and alarms mean, in plain words for a technician.
-pub mod alarm;
-pub mod changes;
+// What answers and replies mean, in plain words for a technician.
 pub mod meaning;
 pub mod reply;

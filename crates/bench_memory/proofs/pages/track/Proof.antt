@@ -1,9 +1,9 @@
--- `bench_exchange::pages::track` is safe and ends. The turns that are left fall.
+-- `bench_memory::pages::track` is safe and ends. The turns that are left fall.
 use mathlib.Core.Path.{_≡_}
 use lib.ListN.{length}
 use borrow.Author.Needs.{needs}
-use Rattle.bench_exchange.proofs.pages.track.Statement.{statement}
-use Rattle.bench_exchange.proofs.pages.track.Tie as tie
+use Rattle.bench_memory.proofs.pages.track.Statement.{statement}
+use Rattle.bench_memory.proofs.pages.track.Tie as tie
 
 abbrev Inv-loop : tie.InvT-loop
 Inv-loop verbose offset next memory₀ page₀ n₀ turns₀ memory page n turns = length memory ≡ length memory₀

@@ -1,10 +1,12 @@
 // Which pages the board rewrote: after each call the flash is compared with its copy where the upload stands.
-use crate::library;
 use crate::memory::COPY;
 use crate::memory::COUNTS;
+use crate::memory::EARLIER;
 use crate::memory::FLASH;
 use crate::memory::MEMORY;
 use crate::memory::PAGES;
+use crate::memory::copy;
+use crate::memory::part;
 use bench_output::increment;
 use bench_output::say;
 use bench_output::tell;
@@ -44,23 +46,23 @@ fn copy_page(offset: usize, page: usize, memory: &mut [u8]) {
     if PAGES < page {
         return;
     }
-    if memory.len() < MEMORY {
-        return;
-    }
     let at = offset + page * State::PAGE;
-    if FLASH - State::PAGE < at {
-        return;
-    }
-    let mut i = 0;
-    while i < State::PAGE {
-        memory[COPY + at + i] = memory[at + i];
-        i += 1;
-    }
+    copy(memory, at, COPY + at, State::PAGE);
+}
+
+// Whether a page of the flash is another than at a place where a copy of the flash stands.
+fn differs(offset: usize, page: usize, earlier: usize, memory: &[u8]) -> bool {
+    upload_ends::page_changed(
+        offset,
+        page,
+        part(memory, earlier, FLASH),
+        part(memory, 0, FLASH),
+    )
 }
 
 // A page that may have been rewritten: whether it was.
 fn track_page(verbose: bool, offset: usize, page: usize, memory: &mut [u8]) -> bool {
-    if !library::page_changed(offset, page, memory) {
+    if !differs(offset, page, COPY, memory) {
         return false;
     }
     copy_page(offset, page, memory);
@@ -101,7 +103,7 @@ pub fn tell_uploaded(p: Profile, memory: &[u8]) {
     let offset = p.offset;
     let mut page = 0;
     while page < PAGES {
-        if library::page_uploaded(offset, page, memory) {
+        if differs(offset, page, EARLIER, memory) {
             tell(b" %", page);
         }
         page += 1;

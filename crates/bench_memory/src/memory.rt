@@ -20,24 +20,39 @@ pub const IMAGE: usize = EARLIER + FLASH;
 
 pub const MEMORY: usize = IMAGE + FLASH + 1;
 
-// Copies the flash to another place.
-fn copy_flash(memory: &mut [u8], to: usize) {
-    if memory.len() < MEMORY {
+// n bytes of the memory from a place on; none where it has not so many.
+pub fn part<'a>(memory: &'a [u8], at: usize, n: usize) -> &'a [u8] {
+    if memory.len() < at {
+        return &memory[0..0];
+    }
+    if memory.len() - at < n {
+        return &memory[0..0];
+    }
+    &memory[at..at + n]
+}
+
+// Copies n bytes from one place to another, if the memory has both.
+pub(crate) fn copy(memory: &mut [u8], from: usize, to: usize, n: usize) {
+    if memory.len() < n {
         return;
     }
-    if MEMORY - FLASH < to {
+    let last = memory.len() - n;
+    if last < from {
+        return;
+    }
+    if last < to {
         return;
     }
     let mut i = 0;
-    while i < FLASH {
-        memory[to + i] = memory[i];
+    while i < n {
+        memory[to + i] = memory[from + i];
         i += 1;
     }
 }
 
 // An upload begins: the flash as it is now is kept.
 pub fn keep_earlier(memory: &mut [u8]) {
-    copy_flash(memory, EARLIER);
+    copy(memory, 0, EARLIER, FLASH);
 }
 
 // The map begins anew: every count is 0, and the copy is as the flash.
@@ -46,7 +61,7 @@ pub fn restart_map(memory: &mut [u8]) {
         return;
     }
     fill(&mut memory[COUNTS..EARLIER], PAGES, 0);
-    copy_flash(memory, COPY);
+    copy(memory, 0, COPY, FLASH);
 }
 
 // The bytes that a line gives, put into the image: how many.
@@ -73,16 +88,9 @@ pub fn fill_flash(memory: &mut [u8], b: u8) {
 
 // The first n bytes of the image are put into the flash, from its first byte on; the map begins anew.
 pub fn load_flash(memory: &mut [u8], n: usize) {
-    if memory.len() < MEMORY {
-        return;
-    }
     if FLASH < n {
         return;
     }
-    let mut i = 0;
-    while i < n {
-        memory[i] = memory[IMAGE + i];
-        i += 1;
-    }
+    copy(memory, IMAGE, 0, n);
     restart_map(memory);
 }

@@ -1,8 +1,8 @@
--- `bench_exchange::pages::tell_uploaded` is safe and ends.
+-- `bench_memory::pages::tell_uploaded` is safe and ends.
 use Prim.Native.Nat.{_≤_, _-_}
 use borrow.Author.Needs.{needs}
-use Rattle.bench_exchange.proofs.pages.tell_uploaded.Statement.{statement}
-use Rattle.bench_exchange.proofs.pages.tell_uploaded.Tie as tie
+use Rattle.bench_memory.proofs.pages.tell_uploaded.Statement.{statement}
+use Rattle.bench_memory.proofs.pages.tell_uploaded.Tie as tie
 
 abbrev Inv-loop : tie.InvT-loop
 Inv-loop memory offset page₀ t6 t7 page = page ≤ 1023
@@ -19,8 +19,8 @@ say-requires c κs = search needs
 loop-holds : tie.Need-loop-holds Inv-loop μ-loop
 loop-holds c = search needs
 
-page-uploaded-requires : tie.Need-page-uploaded-requires Inv-loop μ-loop
-page-uploaded-requires c κs = search needs
+differs-requires : tie.Need-differs-requires Inv-loop μ-loop
+differs-requires c κs = search needs
 
 slice-aggregate-tell : tie.Need-slice-aggregate-tell Inv-loop μ-loop
 slice-aggregate-tell c = search needs
@@ -55,7 +55,7 @@ tell-uploaded-spec =
     slice-aggregate-say
     say-requires
     loop-holds
-    page-uploaded-requires
+    differs-requires
     slice-aggregate-tell
     tell-requires
     add-page
