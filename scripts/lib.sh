@@ -2,9 +2,31 @@
 # What the commands share; sourced. The variable root is the repository's folder, set before.
 : "${root:?}"
 
-# stale FILE: FILE isn't there, or crates.txt, or a file or folder of a crate's src, specs or proofs, is younger.
+# crates_of NAME..: the crates that rt visits for these: they, and all that they stand on.
+crates_of() {
+    awk -v names="$*" '
+        function visit(name,    words, i, n) {
+            if (!(name in needs) || name in seen) return
+            seen[name] = 1
+            print name
+            n = split(needs[name], words, " ")
+            for (i = 1; i <= n; i++) visit(words[i])
+        }
+        { sub(/#.*/, ""); at = index($0, ":") }
+        at { crate = substr($0, 1, at - 1); gsub(/[ \t]/, "", crate); needs[crate] = substr($0, at + 1) }
+        END { n = split(names, wanted, " "); for (i = 1; i <= n; i++) visit(wanted[i]) }' "$root/crates.txt"
+}
+
+# stale FILE NAME..: FILE, which is made of these crates, isn't there, or one of its sources is younger: crates.txt, or a file or folder of
+# src, specs or proofs in one of the crates that rt visits.
 stale() {
-    [ ! -e "$1" ] || [ -n "$(find "$root/crates.txt" "$root"/crates/*/{src,specs,proofs} -newer "$1" -print -quit 2> /dev/null)" ]
+    local file=$1 crate sources=("$root/crates.txt")
+    shift
+    [ -e "$file" ] || return 0
+    for crate in $(crates_of "$@"); do
+        sources+=("$root/crates/$crate"/{src,specs,proofs})
+    done
+    [ -n "$(find "${sources[@]}" -newer "$file" -print -quit 2> /dev/null)" ]
 }
 
 # begin_build FILE, end_build FILE: before and after FILE is built. FILE gets the time at which the build began, whether or not it was
@@ -16,21 +38,6 @@ begin_build() {
 end_build() {
     touch -c -r "$1.begun" "$1"
     rm -f "$1.begun"
-}
-
-# crates_of NAME: how many crates rt visits for NAME: NAME, and all that it stands on.
-crates_of() {
-    awk -v name="$1" '
-        function visit(name,    words, i, n) {
-            if (!(name in needs) || name in seen) return
-            seen[name] = 1
-            count++
-            n = split(needs[name], words, " ")
-            for (i = 1; i <= n; i++) visit(words[i])
-        }
-        { sub(/#.*/, ""); at = index($0, ":") }
-        at { crate = substr($0, 1, at - 1); gsub(/[ \t]/, "", crate); needs[crate] = substr($0, at + 1) }
-        END { visit(name); print count + 0 }' "$root/crates.txt"
 }
 
 # progress NAME TOTAL: reads what rt prints, and says on standard error how many crates are proved: in place on a terminal, else a line
@@ -55,7 +62,7 @@ progress() {
 prove() {
     local total log=$root/target/$2.log status=0
     "$root/scripts/needs" rt mawk || return
-    total=$(crates_of "$2")
+    total=$(crates_of "$2" | wc -l)
     mkdir -p "$root/target"
     echo "$2: proving and building; $total crates, some minutes if none is proved yet" >&2
     (cd "$root" && rt "$1" "$2") < /dev/null 2>&1 | tee "$log" | progress "$2" "$total" || status=$?
@@ -73,11 +80,15 @@ prove() {
 # build_program NAME: target/bin/NAME, proved and built anew if it is stale.
 build_program() {
     local program=$root/target/bin/$1
-    stale "$program" || return 0
+    stale "$program" "$1" || return 0
     begin_build "$program"
     # rt builds a program that has a stamp only if something changed
     [ -e "$program" ] || rm -f "$root/target/stamp/$1"
-    prove check "$1" || return
+    if ! prove check "$1"; then
+        # a program that was built and failed its run is tried again
+        touch -c -d @0 "$program"
+        return 1
+    fi
     end_build "$program"
     [ -x "$program" ] || { echo "$1: rt left no program target/bin/$1" >&2; return 1; }
 }
