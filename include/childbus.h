@@ -30,22 +30,22 @@ extern "C" {
 #endif
 
 /* Numbers that calls answer. */
-#define CHILDBUS_MADE            0u  /* reply or request made: the first *made bytes of the output, its rest untouched.
-                                        Decoder: decoded. Version rule: known. childbus_fresh: done */
-#define CHILDBUS_NOTHING         1u  /* nothing to send: the output is untouched; the state may have changed */
-#define CHILDBUS_PROFILE         2u  /* profile out of range */
-#define CHILDBUS_FLASH_SHORT     3u  /* flash shorter than O + S */
-#define CHILDBUS_STATE_MALFORMED 4u  /* malformed state */
-#define CHILDBUS_OUT_SHORT       5u  /* reply buffer shorter than M */
-#define CHILDBUS_NO_ROOM         6u  /* the request doesn't fit the output */
-#define CHILDBUS_ARGUMENT        7u  /* request argument out of range, or a command that isn't served */
-#define CHILDBUS_REPLY_SHORT     8u  /* reply shorter than 3 (I2C) or 5 (RS485) */
-#define CHILDBUS_REPLY_CRC       9u  /* reply CRC wrong */
-#define CHILDBUS_REPLY_ADDRESS  10u  /* reply from another address */
-#define CHILDBUS_REPLY_LENGTH   11u  /* the length byte doesn't fit the reply */
-#define CHILDBUS_REPLY_STATUS   12u  /* status above 5 */
-#define CHILDBUS_REPLY_RESULTS  13u  /* OK without all of the command's fixed part */
-#define CHILDBUS_VERSION        14u  /* version not known */
+#define CHILDBUS_MADE                   0u  /* reply or request made: the first *made bytes of the output, its rest
+                                               untouched. Decoder: decoded. Version rule: known. childbus_fresh: done */
+#define CHILDBUS_NOTHING                1u  /* nothing to send: the output is untouched; the state may have changed */
+#define CHILDBUS_PROFILE_OUT_OF_RANGE   2u  /* profile out of range */
+#define CHILDBUS_FLASH_SHORT            3u  /* flash shorter than O + S */
+#define CHILDBUS_STATE_MALFORMED        4u  /* malformed state */
+#define CHILDBUS_OUT_SHORT              5u  /* reply buffer shorter than M */
+#define CHILDBUS_NO_ROOM                6u  /* the request doesn't fit the output */
+#define CHILDBUS_ARGUMENT_OUT_OF_RANGE  7u  /* request argument out of range, or a command that isn't served */
+#define CHILDBUS_REPLY_SHORT            8u  /* reply shorter than 3 (I2C) or 5 (RS485) */
+#define CHILDBUS_REPLY_CRC_WRONG        9u  /* reply CRC wrong */
+#define CHILDBUS_REPLY_FOREIGN         10u  /* reply from another address */
+#define CHILDBUS_REPLY_LENGTH_WRONG    11u  /* the length byte doesn't fit the reply */
+#define CHILDBUS_REPLY_STATUS_UNKNOWN  12u  /* status above 5 */
+#define CHILDBUS_RESULTS_MISSING       13u  /* OK without all of the command's fixed part */
+#define CHILDBUS_VERSION_UNKNOWN       14u  /* version not known */
 
 /* Statuses: the byte with which a reply begins (on RS485 after the address). This board has results with OK only. */
 #define CHILDBUS_OK                    0u
@@ -90,13 +90,14 @@ extern "C" {
  *    3      actual revision
  *    4      bootloader version
  *    5      length of the serial, 0 to 16
- *    6..7   ignored
+ *    6..7   set to 0; not looked at today
  *    8..11  M, longest frame, 32 to 256: on RS485 from address to CRC, on I2C without the address
  *   12..15  S, working flash, 64 to 65472, a multiple of 64
  *   16..19  O, its offset in the lent flash, 0 to 65472, a multiple of 64
- *   20..35  serial; bytes beyond its length are ignored
+ *   20..35  serial; bytes beyond its length: set to 0; not looked at today
  *
- * A buffer shorter than CHILDBUS_PROFILE_BYTES, or a field out of its range, is number 2. Bytes past 36 are ignored.
+ * A buffer shorter than CHILDBUS_PROFILE_BYTES, or a field out of its range, is number 2. Bytes past 36 are not looked
+ * at. Fill the profile with 0 before its fields are set: a later version may give these bytes a meaning.
  */
 #define CHILDBUS_PROFILE_BYTES 36u
 #define CHILDBUS_PROFILE_BUS            0
@@ -112,12 +113,13 @@ extern "C" {
 
 /*
  * The state: what the board remembers between calls. childbus_fresh makes it, childbus_receive changes it; the caller
- * keeps it and writes nothing into it.
+ * keeps it and writes nothing into it. Firmware looks at the running byte after each childbus_receive, and starts the
+ * application when it is 1.
  *
  *    0       address kind: 0 default range (8 to 15), 1 own address
  *    1       own address; means something only with kind 1
- *    2       running: 0 or 1
- *    3       ignored
+ *    2       running: 0 the bootloader, 1 the application
+ *    3       means nothing
  *    4..7    next: where the next write of the upload goes
  *    8..11   w: how many bytes wait to be committed
  *   12..15   erase count
@@ -164,8 +166,11 @@ uint32_t childbus_fresh(uint8_t *state, size_t state_len);
  *   made                  the reply's length with 0, else 0
  *
  * Answers 0: on RS485 send the first *made bytes of out; on I2C the master reads them (childbus_read). 1: send nothing.
- * 2, 3, 4, 5: refused, tested in this order. While running only the general-call reset is executed; any other frame
- * answers 1 and changes nothing.
+ * 2, 3, 4, 5: refused, tested in this order.
+ *
+ * After each call look at state[CHILDBUS_STATE_RUNNING]: start answers 1, like many other frames, and this byte alone
+ * tells it apart. When it has become 1, start the application; bytes that waited are lost by then. While it is 1 only
+ * the general-call reset is executed, and makes it 0; any other frame answers 1 and changes nothing.
  */
 uint32_t childbus_receive(const uint8_t *profile, size_t profile_len, uint8_t *state, size_t state_len,
                           uint32_t address, const uint8_t *frame, size_t frame_len, uint8_t *flash, size_t flash_len,
@@ -246,6 +251,9 @@ uint32_t childbus_decode(uint32_t bus, uint32_t code, uint32_t address, uint32_t
  *
  * Answers 1: the first read decodes. 2: the first doesn't, the second does. 0: neither does. These are no numbers of
  * the table above.
+ *
+ * It gives no status, and the results may stand beside a status other than OK. The status is what childbus_decode gives
+ * for the read that the answer names, with CHILDBUS_I2C, the same code and asked; start and len are the same there.
  */
 uint32_t childbus_two_reads(uint32_t code, uint32_t asked, const uint8_t *first, size_t first_len,
                             const uint8_t *second, size_t second_len, size_t *start, size_t *len);
