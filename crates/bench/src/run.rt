@@ -100,8 +100,9 @@ fn end(d: Bench) -> Bench {
     d.at_end()
 }
 
-// A line that is too long.
+// A line that is too long to be kept, and so to be shown.
 fn too_long(d: Bench) -> Bench {
+    show_line(d.typed, b"> ", b"..");
     fault(b"the line", b"", b": at most % bytes here\n", 2048);
     d.refused(b"a line that help lists, or # and a comment")
 }

@@ -158,13 +158,6 @@ pub fn run_line(d: Bench, word: ShowWord, s: &[u8], memory: &[u8]) -> Bench {
     d
 }
 
-fn tell_still_waiting(n: usize) {
-    if 0 < n {
-        say(b"  the script ends\n");
-        tell_waiting(n);
-    }
-}
-
 // How often something happened that must not be missed.
 fn tell_times(before: &[u8], n: usize, thing: &[u8], after: &[u8]) {
     if 0 < n {
@@ -185,7 +178,11 @@ fn tell_wrong(wrong: usize, lines: usize) {
 
 // Says at the end what still waits, what was lost, what got no reply, what failed, and how many lines were not understood.
 pub fn tell_end(d: Bench) {
-    tell_still_waiting(waiting(d));
+    if status(d) == 0 {
+        return;
+    }
+    say(b"  the script ends\n");
+    tell_waiting(waiting(d));
     tell_times(
         b"  ** accepted bytes were lost ",
         d.losses,
