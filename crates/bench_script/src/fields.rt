@@ -266,6 +266,6 @@ pub fn is_end(s: &[u8]) -> bool {
     if s.len() == 0 {
         return true;
     }
-    fault(b"the word", s, b" is one too many\n", 0);
+    fault(b"the word", first(s), b" is one too many\n", 0);
     false
 }
