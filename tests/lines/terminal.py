@@ -40,7 +40,7 @@ def main():
         out, status = typed(bench, [b"version\n", b"# a comment\n", b"say hello\n", ending])
         if status != 0:
             wrong.append(f"status {status}")
-        if out != f"> version\n{answer}> # a comment\n> say hello\nhello\n> {shown}":
+        if out != f"  help lists the lines, quit ends\n> version\n{answer}> # a comment\n> say hello\nhello\n> {shown}":
             wrong.append(f"on the terminal stands {out!r}")
     for w in wrong:
         print(w)

@@ -14,7 +14,11 @@ mod run;
 
 // A new bench; the lines may be typed at a terminal.
 fn new_bench(fd: i32) -> Bench {
-    Bench::new(libc::isatty(fd) == 1)
+    let typed = libc::isatty(fd) == 1;
+    if typed {
+        say(b"  help lists the lines, quit ends\n");
+    }
+    Bench::new(typed)
 }
 
 // The whole script; its status.

@@ -32,7 +32,7 @@ fn tell_finalize() {
 }
 
 // Bytes that wait are not in flash.
-pub fn tell_waiting(n: usize) {
+pub fn tell_held(n: usize) {
     if n == 0 {
         return;
     }
@@ -41,7 +41,22 @@ pub fn tell_waiting(n: usize) {
         b"  ** 1 byte still waits in the board and is not in flash **\n",
         b"  ** % bytes still wait in the board and are not in flash **\n",
     );
-    tell_finalize();
+}
+
+// The same after a call, with what to do.
+fn tell_waiting(n: usize) {
+    tell_held(n);
+    if 0 < n {
+        tell_finalize();
+    }
+}
+
+// The same where no call is to follow: the script's end, another flash.
+pub fn tell_left_waiting(n: usize) {
+    tell_held(n);
+    if 0 < n {
+        say(b"    do: finalize, or upload again from the start\n");
+    }
 }
 
 // The same after an OK, which must not be taken for bytes in flash.

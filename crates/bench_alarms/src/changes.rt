@@ -28,9 +28,13 @@ fn tell_address(own: Address) {
 fn tell_mode(before: State, after: State) -> bool {
     let from = before.address;
     let to = after.address;
-    let moved = address_number(from) != address_number(to);
+    let mut moved = address_number(from) != address_number(to);
     if moved {
         tell_address(to);
+    }
+    if 0 < before.last.len && after.last.len == 0 {
+        say(b"  changed: there is no last reply any more\n");
+        moved = true;
     }
     if before.running && !after.running {
         say(b"  changed: the application stopped, the bootloader is back\n");
@@ -52,6 +56,31 @@ fn tell_number(text: &[u8], from: usize, to: usize) -> bool {
     true
 }
 
+// Whether the first n bytes are the same; yes where there are not so many.
+fn are_same(a: &[u8], b: &[u8], n: usize) -> bool {
+    if a.len() < n {
+        return true;
+    }
+    if b.len() < n {
+        return true;
+    }
+    flash::matches(&a[0..n], &b[0..n])
+}
+
+// Other bytes wait than before, and as many.
+fn tell_replaced(before: Upload, after: Upload) -> bool {
+    if before.held != after.held {
+        return false;
+    }
+    let old = before.waiting;
+    let new = after.waiting;
+    if are_same(&old, &new, before.held) {
+        return false;
+    }
+    say(b"  changed: other bytes wait than before\n");
+    true
+}
+
 // Changes of the upload; whether there is one.
 fn tell_upload(before: Upload, after: Upload) -> bool {
     let next = tell_number(b"  changed: next address % -> %\n", before.next, after.next);
@@ -65,7 +94,8 @@ fn tell_upload(before: Upload, after: Upload) -> bool {
         before.count,
         after.count,
     );
-    next || held || count
+    let replaced = tell_replaced(before, after);
+    next || held || count || replaced
 }
 
 // What a call changed, beside the pages.

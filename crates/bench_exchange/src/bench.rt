@@ -42,7 +42,7 @@ pub struct Bench {
     pub state: State,
     // where the master sends to
     pub to: usize,
-    // the command that the master sent last, and the length that it asked for
+    // the command that the board's last reply belongs to, and the length that it asked for
     pub code: usize,
     pub asked: usize,
     // damage to a frame and to a reply on its way
@@ -124,7 +124,7 @@ impl Bench {
         self
     }
 
-    // The master sent a command, and the board has another state after it.
+    // The board's last reply belongs to a command, and the board has another state after it.
     pub fn exchanged(mut self, code: usize, asked: usize, s: State) -> Self {
         self.code = code;
         self.asked = asked;

@@ -145,6 +145,13 @@ struct Called {
     out: [u8; 256],
     lost: usize,
     unworn: bool,
+    // the command that the last reply belongs to, and the length that it asked for
+    code: usize,
+    length: usize,
+}
+
+fn either(first: bool, a: usize, b: usize) -> usize {
+    if first { a } else { b }
 }
 
 // Gives a frame to the board as it arrives there.
@@ -157,6 +164,7 @@ fn call_board(d: Bench, asked: Asked, frame: &[u8], memory: &mut [u8]) -> Called
     let bus = asked.bus;
     let number = board_number(outcome) as usize;
     let after = state.upload;
+    let replied = 0 < reply_length(outcome);
     Called {
         outcome,
         verdict,
@@ -164,6 +172,8 @@ fn call_board(d: Bench, asked: Asked, frame: &[u8], memory: &mut [u8]) -> Called
         out,
         lost: library::lost(d.profile.offset, d.state.upload, after, memory),
         unworn: library::erased_nothing(bus, frame, number, &out, after),
+        code: either(replied, asked.code, d.code),
+        length: either(replied, asked.length, d.asked),
     }
 }
 
@@ -210,8 +220,7 @@ fn tell_since(verbose: bool, d: Bench, after: State, memory: &mut [u8]) {
 // Gives a frame to the board, and says what the board answered and what changed.
 fn deliver(d: Bench, asked: Asked, frame: &[u8], memory: &mut [u8]) -> Exchange {
     let c = call_board(d, asked, frame, memory);
-    let now = d.exchanged(asked.code, asked.length, c.state)
-        .losing(c.lost);
+    let now = d.exchanged(c.code, c.length, c.state).losing(c.lost);
     let reply = fetched(now, asked, c, memory);
     let result = decoded(asked, reply);
     tell_alarms(asked.verbose, c, result.status);

@@ -4,6 +4,7 @@ use bench_exchange::bench::FIRST_ADDRESS;
 use bench_exchange::requests::command;
 use bench_exchange::requests::general;
 use bench_exchange::requests::request;
+use bench_output::tell;
 use bench_script::fields::is_end;
 use bench_words::PlainWord;
 use rules::requests::Request;
@@ -19,6 +20,9 @@ fn plain(d: Bench, code: usize, memory: &mut [u8]) -> Bench {
 fn reset(d: Bench, r: Request, memory: &mut [u8]) -> Bench {
     let done = request(d, r, general(d), 0, 0, memory);
     let after = done.bench;
+    if after.to != FIRST_ADDRESS {
+        tell(b"  the master sends to % from now on\n", FIRST_ADDRESS);
+    }
     after.sending_to(FIRST_ADDRESS)
 }
 

@@ -29,9 +29,12 @@ use rules::requests::Request;
 // The most bytes that a line of digits gives.
 const RAW: usize = 1024;
 
+// No limit here: the encoder has one, and its answer is said with it.
+const ANY: usize = 1000000;
+
 // `ADDRESS type TYPE`: the request; Plain(0) for wrong ones.
 fn set_address_request(s: &[u8]) -> Request {
-    let new = number(b"address", first(s), 0, 65535);
+    let new = number(b"address", first(s), 0, ANY);
     let Parsed::Value(address) = new else {
         return Request::Plain(0);
     };
@@ -45,7 +48,7 @@ fn set_address_request(s: &[u8]) -> Request {
         );
         return Request::Plain(0);
     }
-    let kind = number(b"type", rest(more), 0, 65535);
+    let kind = number(b"type", rest(more), 0, ANY);
     let Parsed::Value(hardware) = kind else {
         return Request::Plain(0);
     };
@@ -54,11 +57,11 @@ fn set_address_request(s: &[u8]) -> Request {
 
 // `ADDRESS LENGTH`: the request; Plain(0) for wrong ones.
 fn read_request(s: &[u8]) -> Request {
-    let place = number(b"address", first(s), 0, 100000);
+    let place = number(b"address", first(s), 0, ANY);
     let Parsed::Value(address) = place else {
         return Request::Plain(0);
     };
-    let count = number(b"length", rest(s), 0, 100000);
+    let count = number(b"length", rest(s), 0, ANY);
     let Parsed::Value(length) = count else {
         return Request::Plain(0);
     };
@@ -95,14 +98,6 @@ fn read(d: Bench, s: &[u8], memory: &mut [u8]) -> Bench {
     done.bench
 }
 
-// The address in front of a write's data, if they end the line.
-fn write_address(s: &[u8]) -> Parsed {
-    if !is_end(after_data(rest(s))) {
-        return Parsed::Wrong;
-    }
-    number(b"address", first(s), 0, 100000)
-}
-
 fn write_wrong(d: Bench, got: Parsed) -> Bench {
     d.refused_data(
         got,
@@ -110,9 +105,19 @@ fn write_wrong(d: Bench, got: Parsed) -> Bench {
     )
 }
 
+// A write of the first n bytes of the image, if nothing follows them on the line.
+fn write_loaded(d: Bench, address: usize, n: usize, more: &[u8], memory: &mut [u8]) -> Bench {
+    if !is_end(more) {
+        return write_wrong(d, Parsed::Wrong);
+    }
+    let asked = command(d, 0x06, 0, true);
+    let done = request(d, Request::Write { address }, asked, 0, n, memory);
+    done.bench
+}
+
 // `write ADDRESS DATA`
 fn write(d: Bench, s: &[u8], memory: &mut [u8]) -> Bench {
-    let place = write_address(s);
+    let place = number(b"address", first(s), 0, ANY);
     let Parsed::Value(address) = place else {
         return write_wrong(d, place);
     };
@@ -120,9 +125,7 @@ fn write(d: Bench, s: &[u8], memory: &mut [u8]) -> Bench {
     let Parsed::Value(n) = got else {
         return write_wrong(d, got);
     };
-    let asked = command(d, 0x06, 0, true);
-    let done = request(d, Request::Write { address }, asked, 0, n, memory);
-    done.bench
+    write_loaded(d, address, n, after_data(rest(s)), memory)
 }
 
 // The command of a raw frame: behind the address. A read's length stands behind its flash address.

@@ -1,6 +1,6 @@
 // `upload`: the image's length held against S, all frames, finalize, and the whole image read back; and how that ended.
 use bench_alarms::alarm::tell_broken_off;
-use bench_alarms::alarm::tell_waiting;
+use bench_alarms::alarm::tell_held;
 use bench_alarms::alarm::tell_waiting_after;
 use bench_exchange::bench::Bench;
 use bench_exchange::requests::command;
@@ -40,13 +40,19 @@ fn begin(d: Bench, n: usize, memory: &mut [u8]) -> Sent {
     let done = request(d, Request::Plain(0x03), asked, 0, 0, memory);
     let bench = done.bench;
     if done.result.status != 0 {
-        say(b"  ** upload not begun: the board did not tell its S, and nothing was written **\n");
+        say(
+            b"  ** upload not begun: the board did not tell its S, and nothing was written **
+    do: see that the board answers, with: info; and upload again
+",
+        );
         return Sent { bench, fine: false };
     }
     let size = done.result.value;
     if size < n {
         tell_all(
-            b"  ** upload not begun: the image has % bytes, the working flash %, and nothing was written **\n",
+            b"  ** upload not begun: the image has % bytes, the working flash %, and nothing was written **
+    do: upload an image that fits this board
+",
             [n, size, 0, 0, 0],
         );
         return Sent { bench, fine: false };
@@ -145,10 +151,17 @@ fn read_piece(d: Bench, at: usize, end: usize, memory: &mut [u8]) -> Sent {
     };
     let done = request(d, r, asked, 0, 0, memory);
     let bench = done.bench;
-    let fine = done.result.status == 0 && is_image(done, at, end, memory);
+    if done.result.status != 0 {
+        tell(
+            b"  ** read back: the bytes from address % on could not be read **\n",
+            at,
+        );
+        return Sent { bench, fine: false };
+    }
+    let fine = is_image(done, at, end, memory);
     if !fine {
         tell(
-            b"  ** read back: the bytes from address % on are not read as sent **\n",
+            b"  ** read back: the bytes from address % on are not as sent **\n",
             at,
         );
     }
@@ -228,7 +241,7 @@ fn end_upload(s: Sent, n: usize, memory: &[u8]) -> Bench {
     if let UploadEnd::Partly = end {
         tell_uploaded(d.profile, memory);
     }
-    tell_waiting(waiting(d));
+    tell_held(waiting(d));
     d.failing()
 }
 
@@ -282,18 +295,23 @@ fn no_bytes(d: Bench) -> Bench {
     )
 }
 
-// What follows `upload`: `DATA frames N`
-pub fn run_line(d: Bench, s: &[u8], memory: &mut [u8]) -> Bench {
-    let length = pieces(d, after_data(s));
+// An upload of the first n bytes of the image; `frames N` follows them on the line.
+fn upload_loaded(d: Bench, n: usize, more: &[u8], memory: &mut [u8]) -> Bench {
+    let length = pieces(d, more);
     let Parsed::Value(piece) = length else {
         return wrong(d, length);
-    };
-    let got = load_data(s, memory);
-    let Parsed::Value(n) = got else {
-        return wrong(d, got);
     };
     if n == 0 {
         return no_bytes(d);
     }
     upload(d, piece, n, memory)
+}
+
+// What follows `upload`: `DATA frames N`
+pub fn run_line(d: Bench, s: &[u8], memory: &mut [u8]) -> Bench {
+    let got = load_data(s, memory);
+    let Parsed::Value(n) = got else {
+        return wrong(d, got);
+    };
+    upload_loaded(d, n, after_data(s), memory)
 }

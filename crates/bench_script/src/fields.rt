@@ -30,10 +30,26 @@ fn first_nonblank(s: &[u8]) -> usize
     i
 }
 
-// Without the blanks in front.
+// The length without the blanks at the end.
+fn content_length(s: &[u8]) -> usize
+    ensures { λ r. ⌜ r ≤ length (now (s .entry)) ⌝ }
+{
+    let mut n = s.len();
+    while 0 < n {
+        if s[n - 1] != b' ' {
+            return n;
+        }
+        n -= 1;
+    }
+    n
+}
+
+// Without the blanks in front and at the end.
 pub fn trimmed<'a>(s: &'a [u8]) -> &'a [u8] {
     let n = first_nonblank(s);
-    &s[n..]
+    let t = &s[n..];
+    let m = content_length(t);
+    &t[0..m]
 }
 
 // The first field of a trimmed line.
@@ -167,8 +183,11 @@ fn value_of(s: &[u8]) -> Parsed {
     digits(s, 10)
 }
 
-// A whole field as a number from `least` to `most`, which is below a million.
+// A number from `least` to `most`, and nothing behind it. From a million on it counts as a million.
 pub fn number(name: &[u8], s: &[u8], least: usize, most: usize) -> Parsed {
+    if !is_end(rest(s)) {
+        return Parsed::Wrong;
+    }
     if s.len() == 0 {
         return fault(name, s, b": the number is missing\n", 0);
     }
@@ -248,8 +267,11 @@ pub fn hex(name: &[u8], s: &[u8], out: &mut [u8]) -> Parsed {
     pairs(name, without_prefix(s), out)
 }
 
-// One byte as a pair of digits.
+// One byte as a pair of digits, and nothing behind it.
 pub fn hex_byte(name: &[u8], s: &[u8]) -> Parsed {
+    if !is_end(rest(s)) {
+        return Parsed::Wrong;
+    }
     let d = without_prefix(s);
     if d.len() != 2 {
         return fault(name, s, b": a byte is two hexadecimal digits\n", 0);

@@ -6,6 +6,7 @@ use crate::fields::first;
 use crate::fields::hex;
 use crate::fields::hex_byte;
 use crate::fields::is;
+use crate::fields::is_end;
 use crate::fields::number;
 use crate::fields::rest;
 use bench_output::say;
@@ -79,16 +80,24 @@ fn tell_text_file(name: &[u8]) {
     say(b"  ** the file ");
     say_word(name);
     say(
-        b" looks like Intel HEX: its characters are taken as the image's bytes **
+        b" looks like Intel HEX: its characters are taken as bytes **
     do: make a binary file of it first, as with: objcopy -I ihex -O binary NAME.hex NAME.bin
 ",
     );
 }
 
+// A file that filled the buffer of n bytes.
+fn too_long(name: &[u8], n: usize) -> Parsed {
+    if n == 0 {
+        return unusable(name, b" is too long\n", 0);
+    }
+    unusable(name, b" is too long: at most % bytes fit\n", n - 1)
+}
+
 // The n bytes that a file gave, if they are fewer than the buffer has.
 fn given(name: &[u8], out: &[u8], n: usize) -> Parsed {
     if out.len() <= n {
-        return unusable(name, b" is too long: it has % bytes or more\n", n);
+        return too_long(name, n);
     }
     if is_intel_hex(&out[0..n]) {
         tell_text_file(name);
@@ -100,6 +109,9 @@ fn given(name: &[u8], out: &[u8], n: usize) -> Parsed {
 pub fn file(name: &[u8], out: &mut [u8]) -> Parsed {
     if name.len() == 0 {
         return fault(b"file", name, b": the name is missing\n", 0);
+    }
+    if !is_end(rest(name)) {
+        return Parsed::Wrong;
     }
     let fd = os::open_read(name);
     if fd < 0 {

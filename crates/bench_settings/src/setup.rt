@@ -1,11 +1,12 @@
 // Lines that set the bench up: the board, the flash, where the master sends to, and damage.
 use crate::boards;
-use bench_alarms::alarm::tell_waiting;
+use bench_alarms::alarm::tell_left_waiting;
 use bench_exchange::bench::Bench;
 use bench_exchange::bench::Damage;
 use bench_exchange::requests::waiting;
 use bench_memory::memory;
 use bench_output::say;
+use bench_output::say_byte;
 use bench_output::say_count;
 use bench_output::tell;
 use bench_script::fields::Parsed;
@@ -26,7 +27,10 @@ fn flash_fill(d: Bench, value: &[u8], memory: &mut [u8]) -> Bench {
         return d.refused(b"flash fill BYTE: the byte in two hexadecimal digits, as ff");
     };
     memory::fill_flash(memory, (b % 256) as u8);
-    tell_waiting(waiting(d));
+    say(b"  every byte of flash is ");
+    say_byte((b % 256) as u8);
+    say(b"\n");
+    tell_left_waiting(waiting(d));
     d
 }
 
@@ -41,7 +45,7 @@ fn flash_file(d: Bench, name: &[u8], memory: &mut [u8]) -> Bench {
     };
     memory::load_flash(memory, n);
     tell(b"  bytes of flash as in the file: %\n", n);
-    tell_waiting(waiting(d));
+    tell_left_waiting(waiting(d));
     d
 }
 

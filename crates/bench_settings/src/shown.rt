@@ -1,5 +1,5 @@
 // Lines that show: `state`, `map`, `help`; and what is said when the script ends.
-use bench_alarms::alarm::tell_waiting;
+use bench_alarms::alarm::tell_left_waiting;
 use bench_exchange::bench::Bench;
 use bench_exchange::requests::waiting;
 use bench_memory::memory::PAGES;
@@ -182,7 +182,7 @@ pub fn tell_end(d: Bench) {
         return;
     }
     say(b"  the script ends\n");
-    tell_waiting(waiting(d));
+    tell_left_waiting(waiting(d));
     tell_times(
         b"  ** accepted bytes were lost ",
         d.losses,

@@ -153,7 +153,7 @@ pub fn tell_no_read() {
     say(
         b"  number 1, nothing to send
   ** nothing to read, and that is no dead board **
-  no last reply, another board's address, a running application, or RS485
+    it may be: no last reply, another board's address, address 0, a running application, or RS485
     do: send a command on I2C, and read at the board's address
 ",
     );
@@ -242,7 +242,10 @@ pub fn tell_unmade(e: Encoded, bus: Bus, longest: usize, r: Request, to: usize, 
 // What to do about a reply that was damaged, by bus and command: the board may have done what it was asked. On I²C it has kept the reply.
 fn again(bus: Bus, code: usize) -> usize {
     match bus {
-        Bus::I2c => 0,
+        Bus::I2c => match code {
+            0x01 => 5,
+            _ => 0,
+        },
         Bus::Rs485 => match code {
             0x01 => 1,
             0x06 => 2,
@@ -260,6 +263,7 @@ fn tell_again(bus: Bus, code: usize) {
 |    do: begin the upload again at 0: the board may have taken this write, and then refuses it a second time
 |    do: finalize again: it erases nothing twice, and tells the same count
 |    do: ask again: that changes nothing
+|    do: read once more at the new address, with i2c-read and that address: the board has kept the reply there
 ",
     );
 }

@@ -56,7 +56,10 @@ fn tell_known(v: Version) {
             b", which counts as %.%\n",
             [as_usize(major), as_usize(minor), 0, 0, 0],
         ),
-        Version::Unknown => meaning::tell_number(14),
+        Version::Unknown => {
+            say(b"\n");
+            meaning::tell_number(14);
+        }
     }
 }
 
