@@ -1,6 +1,7 @@
 // The bench: plays a board, and the master beside it, from a script of plain lines, and says in words what happened.
 // The script is the file that the first argument names, or standard input; a second argument names a file for the status.
 // The lines are listed by `help` and in docs/BENCH.md.
+use crate::run::LONGEST_LINE;
 use crate::run::run_next_line;
 use bench_exchange::bench::Bench;
 use bench_memory::memory::MEMORY;
@@ -35,7 +36,7 @@ fn run_script(fd: i32, line: &mut [u8], memory: &mut [u8]) -> usize {
 
 // A new bench: erased flash, and nothing rewritten.
 fn start_with(fd: i32, memory: &mut [u8]) -> usize {
-    let mut line = [0u8; 2048];
+    let mut line = [0u8; LONGEST_LINE];
     fill_flash(memory, 0xff);
     run_script(fd, &mut line, memory)
 }

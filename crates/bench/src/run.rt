@@ -17,6 +17,9 @@ use bench_settings::shown;
 use bench_words::Word;
 use bench_words::word_named;
 
+// The most bytes that a line may have.
+pub const LONGEST_LINE: usize = 2048;
+
 fn unknown(d: Bench, word: &[u8]) -> Bench {
     fault(b"the word", word, b" begins no line\n", 0);
     d.refused(b"a line that help lists, or # and a comment")
@@ -103,7 +106,7 @@ fn end(d: Bench) -> Bench {
 // A line that is too long to be kept, and so to be shown.
 fn too_long(d: Bench) -> Bench {
     show_line(d.typed, b"> ", b"..");
-    fault(b"the line", b"", b": at most % bytes here\n", 2048);
+    fault(b"the line", b"", b": at most % bytes here\n", LONGEST_LINE);
     d.refused(b"a line that help lists, or # and a comment")
 }
 

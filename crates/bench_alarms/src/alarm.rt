@@ -1,4 +1,4 @@
-// Alarms in words. What stands between `**` must not be missed. The cases are decided by the crate `alarms`.
+// Alarms in words. What stands between `**` must not be missed. The cases are decided by `alarms`, `lost_bytes` and `upload_ends`.
 use bench_output::say;
 use bench_output::tell;
 use upload_ends::UploadEnd;
