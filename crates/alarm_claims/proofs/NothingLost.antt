@@ -1,6 +1,6 @@
 -- Nothing is lost where each byte that waited waits or stands in flash at its place.
 use mathlib.Core.Path.{_≡_, refl, ap, _∙_}
-use mathlib.Core.Bool.{Bool, true, false, _&&_, not}
+use mathlib.Core.Bool.{true, false, not, and-false}
 use mathlib.Core.List.{List, [], _∷_}
 use Prim.Native.Nat.{ℕ, suc, _+_, _-_, _<_, _≤_}
 use native.Mathlib.Nat.{add-zero}
@@ -16,7 +16,8 @@ use Rattle.rules.specs.Commands.{finished}
 use Rattle.laws.proofs.BytesLaws.{length-overlay}
 use Rattle.laws.proofs.CommitLaws.{standing, noneWaiting, raise, committed-overlay}
 use Rattle.laws.proofs.StateLaws.{refusal-unrefused}
-use Rattle.laws.proofs.UploadLaws.{by-test, formed-fitting}
+use Rattle.laws.proofs.TestLaws.{by-test}
+use Rattle.laws.proofs.UploadLaws.{formed-fitting}
 use Rattle.ledger.proofs.Finish.{overlay-inside}
 use Rattle.byte_parts.specs.Parts.{standsAt}
 use Rattle.lost_bytes.specs.Lost.{firstWaiting, waitsAt, lostByte, lostFrom, lostBytes}
@@ -25,10 +26,6 @@ use Rattle.alarm_claims.specs.Claims.{KeptLosesNothing, FinalizeLosesNot
 -- a byte that is there stands there
 stands : (l : List ℕ) (i b : ℕ) → i < length l → getD l i 0 ≡ b → standsAt l i b ≡ true
 stands l i b h e = rw (lt-ltb i (length l) h, eq-eqb (getD l i 0) b e)
-
-and-false : (b : Bool) → (b && false) ≡ false
-and-false true = refl
-and-false false = refl
 
 -- none of the bytes is lost
 none-lost : (flash : List ℕ) (first : ℕ) (waiting : List ℕ) (address : ℕ) (bytes : List ℕ)

@@ -17,7 +17,7 @@ use Rattle.rules.specs.Profile.{Profile}
 use Rattle.rules.specs.State.{State}
 use Rattle.rules.specs.Frames.{addressed, framing, verdict}
 use Rattle.rules.specs.Board.{handled, received, readAnswered, readOut}
-use Rattle.laws.proofs.UploadLaws.{by-test}
+use Rattle.laws.proofs.TestLaws.{by-test}
 use Rattle.fields.specs.Fields.{clipped}
 
 addressed-foreign : (own : Address) (a : ℕ) → 128 ≤ a → addressed I2c own a ≡ false

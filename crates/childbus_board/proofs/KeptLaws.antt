@@ -15,14 +15,13 @@ use Rattle.rules.specs.State.{used, wellFormed}
 use Rattle.rules.specs.Numbers.{refusal}
 use Rattle.rules.specs.Board.{Called, received}
 use Rattle.laws.proofs.StateLaws.{Unrefused, length-used, inRange-facts, wellFormed-facts, refusal-unrefused}
-use Rattle.laws.proofs.UploadLaws.{by-test}
+use Rattle.laws.proofs.TestLaws.{by-test, &&-true}
 use Rattle.laws.proofs.BoardLaws.{received-formed-call, received-refused, refusal-least}
 use Rattle.state.specs.View.{page, largestFrame, view, zeroed}
 use Rattle.profile.specs.View.{profileOf}
 use Rattle.profile_bytes.specs.ProfileBytes.{profileAt}
 use Rattle.state_bytes.specs.StateBytes.{stateSize, stateHeld, stateAt, stateWritten}
 use Rattle.state_bytes.specs.BothWays.{StateFits}
-use Rattle.fields.proofs.Laws.{&&-true}
 use Rattle.state_bytes.proofs.Laws.{state-fits, state-read, state-malformed}
 use Rattle.normalize.specs.Normalized.{normalized}
 use Rattle.childbus_board.specs.BoardBytes.{freshLeft, callOf, receivedLeft}

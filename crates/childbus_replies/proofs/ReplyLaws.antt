@@ -14,7 +14,7 @@ use Rattle.rules.specs.declared.requests.Decoded.the-variants.{Reply, NotServed
 use Rattle.rules.specs.declared.requests.Decoded.the-variants.{StatusUnknown, ResultsMissing}
 use Rattle.rules.specs.Master.{Decoding, unread, decodedAs, decoded, decodedRead, resultsIn}
 use Rattle.rules.specs.Master.{resultBytes, whichRead, capped, Ruled, versionRule}
-use Rattle.laws.proofs.UploadLaws.{by-test}
+use Rattle.laws.proofs.TestLaws.{by-test}
 use Rattle.rules.proofs.requests.Decoded.{the-type}
 use Rattle.decoder.specs.Calls.{Decodes}
 use Rattle.decoder.proofs.ReadsLaws.{refusals}

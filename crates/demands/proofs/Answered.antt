@@ -1,6 +1,6 @@
 -- What a well-framed request gets from the board of the rules: its verdict is a command, so its answer is the command's own.
 use mathlib.Core.Path.{_≡_, refl, sym, _∙_}
-use mathlib.Core.Bool.{Bool, true, false, not, _&&_, and-eq-true-iff, false≢true}
+use mathlib.Core.Bool.{Bool, true, false, not, _&&_, false≢true}
 use mathlib.Core.List.{List, [], _∷_}
 use Prim.Native.Nat.{ℕ, _+_, _-_, _≤_}
 use native.Mathlib.Omega.{arith}
@@ -19,7 +19,7 @@ use Rattle.rules.specs.CheckSums.{sumRight}
 use Rattle.rules.specs.Frames.{shortestRequest, destination, commandOf, argumentsOf, numberAt, framing, verdict}
 use Rattle.rules.specs.Commands.{Reply, replying, accepted, written, readable, shown, performed, executed, tabled, ok, invalidArguments}
 use Rattle.rules.specs.Board.{finishedCall, handled}
-use Rattle.laws.proofs.UploadLaws.{by-test}
+use Rattle.laws.proofs.TestLaws.{by-test, &&-true}
 use Rattle.laws.proofs.VerdictLaws.{Framed, framing-cases, verdict-cases}
 use Rattle.demands.specs.Past.{isCommand, wellFramed}
 use Rattle.demands.proofs.PastLaws.{pastOf}
@@ -49,12 +49,12 @@ module _ (p : Profile) (s : State) (a : ℕ) (f : List ℕ) (heard : wellFramed 
   stopped : s .running ≡ false
   unfolding wellFramed
   stopped =
-      not-true (s .running) (and-eq-true-iff (not (s .running)) (isCommand (framing (p .bus) (p .longest) (s .address) a f)) .0 heard .0)
+      not-true (s .running) (&&-true (not (s .running)) (isCommand (framing (p .bus) (p .longest) (s .address) a f)) heard .0)
 
   framing-command : framing (p .bus) (p .longest) (s .address) a f ≡ Command
   unfolding wellFramed
   framing-command =
-      isCommand-true _ (and-eq-true-iff (not (s .running)) (isCommand (framing (p .bus) (p .longest) (s .address) a f)) .0 heard .1)
+      isCommand-true _ (&&-true (not (s .running)) (isCommand (framing (p .bus) (p .longest) (s .address) a f)) heard .1)
 
   framed : Framed (p .bus) (p .longest) (s .address) a f
   framed =
@@ -94,7 +94,7 @@ module _ (p : Profile) (s : State) (args d : List ℕ) where
   pub write-accepted : length args ≤ 254 → ordered ≡ true → executed p s 0x06 args d .response ≡ Reply ok []
   unfolding executed performed tabled written
   write-accepted most e =
-      let parts = and-eq-true-iff (leb 2 (length args)) (accepted (p .size) (s .upload .next) (numberAt args 0) (length args - 2)) .0 e in
+      let parts = &&-true (leb 2 (length args)) (accepted (p .size) (s .upload .next) (numberAt args 0) (length args - 2)) e in
       rw (parts .0, le-leb (length args) 254 most, length-drop 2 args, parts .1)
 
   pub write-refused : ordered ≡ false → executed p s 0x06 args d ≡ replying s d invalidArguments []

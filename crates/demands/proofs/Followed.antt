@@ -1,7 +1,7 @@
 -- What the past tells is what the board keeps: a command to this board, given to the tracker by frame and answer, shows running, address
 -- and next of the state that it leaves. By its code.
 use mathlib.Core.Path.{_≡_, refl, sym, ap, _∙_}
-use mathlib.Core.Bool.{true, false, not, _&&_, _||_, and-false, and-eq-true-iff}
+use mathlib.Core.Bool.{true, false, not, _&&_, _||_, and-false}
 use mathlib.Core.List.{List, [], _∷_}
 use Prim.Native.Nat.{ℕ, _+_, _≤_}
 use native.Mathlib.Omega.{arith}
@@ -17,7 +17,8 @@ use Rattle.rules.specs.Commands.{Acted, Reply, replying, withUpload, addressTak
 use Rattle.rules.specs.Commands.{accepted, restarted, written, finished, readable, shown, executed, tabled, lengthAllowed, ok}
 use Rattle.rules.specs.Commands.{commandNotSupported, invalidArguments}
 use Rattle.rules.specs.Board.{Called, finishedCall}
-use Rattle.laws.proofs.UploadLaws.{by-test, next-takenAll, next-finalized}
+use Rattle.laws.proofs.TestLaws.{by-test, &&-true}
+use Rattle.laws.proofs.UploadLaws.{next-takenAll, next-finalized}
 use Rattle.laws.proofs.CommandLaws.{next-restarted, executed-cases}
 use Rattle.ledger.specs.Ledger.{writeAddress, writeData}
 use Rattle.ledger.proofs.FrameReading.{write-address, write-data}
@@ -34,10 +35,10 @@ Followed p s a f act = Follows p s a f (finishedCall (p .bus) (destination (p .b
 
 -- an allowed argument length lies within the row
 allowed-least : (code n : ℕ) → lengthAllowed code n ≡ true → tabled code 1 ≤ n
-allowed-least code n e = leb-true (tabled code 1) n (and-eq-true-iff (leb (tabled code 1) n) (leb n (tabled code 2)) .0 e .0)
+allowed-least code n e = leb-true (tabled code 1) n (&&-true (leb (tabled code 1) n) (leb n (tabled code 2)) e .0)
 
 allowed-most : (code n : ℕ) → lengthAllowed code n ≡ true → n ≤ tabled code 2
-allowed-most code n e = leb-true n (tabled code 2) (and-eq-true-iff (leb (tabled code 1) n) (leb n (tabled code 2)) .0 e .1)
+allowed-most code n e = leb-true n (tabled code 2) (&&-true (leb (tabled code 1) n) (leb n (tabled code 2)) e .1)
 
 module _ (p : Profile) (s : State) (a : ℕ) (f d : List ℕ) where
   -- a reply: the last reply is not seen

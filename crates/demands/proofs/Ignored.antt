@@ -2,7 +2,7 @@
 -- flash and upload.
 use mathlib.Core.Path.{_≡_, refl, sym, ap, _∙_}
 use mathlib.Core.Logic.{inl, inr}
-use mathlib.Core.Bool.{Bool, true, false, not, _&&_, and-eq-true-iff, true≢false}
+use mathlib.Core.Bool.{Bool, true, false, not, _&&_, true≢false}
 use mathlib.Core.List.{List, []}
 use Prim.Native.Nat.{ℕ}
 use lib.Dec.{eqb}
@@ -19,7 +19,7 @@ use Rattle.rules.specs.CheckSums.{sumRight}
 use Rattle.rules.specs.Frames.{reply, destination, addressed, resetFrame, isGeneral, verdict}
 use Rattle.rules.specs.Commands.{invalidTransfer, invalidCrc}
 use Rattle.rules.specs.Board.{handled, received}
-use Rattle.laws.proofs.UploadLaws.{by-test}
+use Rattle.laws.proofs.TestLaws.{by-test, &&-true}
 use Rattle.laws.proofs.VerdictLaws.{Framed, framing-cases, verdict-cases}
 use Rattle.laws.proofs.BoardLaws.{withLast-upload, received-handled, received-refused}
 use Rattle.laws.proofs.BytesLaws.{same-true}
@@ -39,11 +39,11 @@ both false e n = true≢false (sym e)
 foreign-ignored : (p : Profile) (s : State) (a : ℕ) (f : List ℕ) → foreign p s a f ≡ true → Ignored p s a f
 foreign-ignored p s a f e =
     let parts =
-    and-eq-true-iff (not (addressed (p .bus) (s .address) (destination (p .bus) a f))) (not (eqb (destination (p .bus) a f) 0)) .0 e in
+    &&-true (not (addressed (p .bus) (s .address) (destination (p .bus) a f))) (not (eqb (destination (p .bus) a f) 0)) e in
     record {
       not-reset =
           λ g. both (eqb (destination (p .bus) a f) 0)
-          (and-eq-true-iff (eqb (destination (p .bus) a f) 0) (same f (resetFrame (p .bus))) .0 g .0) (parts .1);
+          (&&-true (eqb (destination (p .bus) a f) 0) (same f (resetFrame (p .bus))) g .0) (parts .1);
       not-framed = λ h. both (addressed (p .bus) (s .address) (destination (p .bus) a f)) (h .heard) (parts .0);
     }
 
@@ -54,12 +54,12 @@ unfolding resetFrame
 damaged-no-reset I2c a f e wrong g = both (eqb a 0 && same f (resetFrame I2c)) g e
 damaged-no-reset Rs485 a f e wrong g =
     let is : f ≡ resetFrame Rs485 =
-    same-true f (resetFrame Rs485) (and-eq-true-iff (eqb (destination Rs485 a f) 0) (same f (resetFrame Rs485)) .0 g .1) in
+    same-true f (resetFrame Rs485) (&&-true (eqb (destination Rs485 a f) 0) (same f (resetFrame Rs485)) g .1) in
     both (sumRight Rs485 f) (ap (sumRight Rs485) is ∙ sumRight-sealed Rs485 _) wrong
 
 damaged-ignored : (p : Profile) (s : State) (a : ℕ) (f : List ℕ) → damaged p a f ≡ true → Ignored p s a f
 damaged-ignored p s a f e =
-    let parts = and-eq-true-iff (summed (p .bus) a f) (not (sumRight (p .bus) f)) .0 e in
+    let parts = &&-true (summed (p .bus) a f) (not (sumRight (p .bus) f)) e in
     record {
       not-reset = damaged-no-reset (p .bus) a f (parts .0) (parts .1);
       not-framed =

@@ -15,7 +15,7 @@ use Rattle.rules.specs.Numbers.{refusal}
 use Rattle.rules.specs.Frames.{resetFrame, resetAddressFrame, isGeneral, framing, verdict}
 use Rattle.rules.specs.Commands.{invalidTransfer, invalidCrc}
 use Rattle.rules.specs.Board.{nothing, handled, received}
-use Rattle.laws.proofs.UploadLaws.{by-test}
+use Rattle.laws.proofs.TestLaws.{by-test}
 use Rattle.laws.proofs.VerdictLaws.{framing-cases, verdict-cases}
 use Rattle.laws.proofs.BoardLaws.{received-handled, received-refused, refusal-least}
 use Rattle.demands.specs.Past.{isCommand, wellFramed, afterFrame}

@@ -17,7 +17,7 @@ use Rattle.rules.specs.Numbers.{refusal}
 use Rattle.rules.specs.Frames.{commandOf, argumentsOf, destination, verdict}
 use Rattle.rules.specs.Commands.{Response, Reply, NoReply, Acted, executed}
 use Rattle.rules.specs.Board.{Called, replied, handled, refused, received, readAnswered, readOut}
-use Rattle.laws.proofs.UploadLaws.{by-test}
+use Rattle.laws.proofs.TestLaws.{by-test}
 use Rattle.laws.proofs.BoardLaws.{received-handled, received-refused}
 use Rattle.demands.specs.Untouched.{RefusedUntouched}
 

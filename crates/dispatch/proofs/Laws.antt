@@ -1,16 +1,17 @@
 -- The argument lengths that the table allows, by code.
 use mathlib.Core.Path.{_≡_, refl, sym, ap, _∙_}
-use mathlib.Core.Bool.{true, and-eq-true-iff}
+use mathlib.Core.Bool.{true}
 use Prim.Native.Nat.{ℕ, _≤_}
 use native.Mathlib.Omega.{arith}
 use lib.Dec.{leb}
 use borrow.Author.Tests.{leb-true}
 use Rattle.rules.specs.Commands.{tabled, lengthAllowed}
+use Rattle.laws.proofs.TestLaws.{&&-true}
 
 -- at least the shortest, at most the longest
 pub allowed-between : (code k n : ℕ) → code ≡ k → lengthAllowed code n ≡ true → (tabled k 1 ≤ n) × (n ≤ tabled k 2)
 allowed-between code k n e allowed =
-    let parts = and-eq-true-iff (leb (tabled code 1) n) (leb n (tabled code 2)) .0 allowed in
+    let parts = &&-true (leb (tabled code 1) n) (leb n (tabled code 2)) allowed in
     (rw e at (leb-true (tabled code 1) n (parts .0)), rw e at (leb-true n (tabled code 2) (parts .1)))
 
 pub set-address-arguments : (code n : ℕ) → code ≡ 0x01 → lengthAllowed code n ≡ true → n ≡ 2

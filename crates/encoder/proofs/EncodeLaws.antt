@@ -16,33 +16,18 @@ use Rattle.rules.specs.Profile.{frameInRange}
 use Rattle.rules.specs.Frames.{shortestRequest, shortestReply}
 use Rattle.rules.specs.Commands.{served, lengthAllowed}
 use Rattle.rules.specs.Master.{Encoding, encodedNumber, encodedLength, addressOver, flashAddressOver, commandWrong, argumentWrong, unmade}
+use Rattle.laws.proofs.TestLaws.{&&-true, ||-false}
 use Rattle.laws.proofs.ArgumentLaws.{served-lt}
 use Rattle.request_bytes.specs.Making.{Makes, Fitting}
 use Rattle.encoder.specs.Calls.{Encodes}
 
 -- numbers that fit their bytes
 
-or-false-left : (a b : Bool) → (a || b) ≡ false → a ≡ false
-or-false-left true b e = e
-or-false-left false b e = refl
-
-or-false-right : (a b : Bool) → (a || b) ≡ false → b ≡ false
-or-false-right true b e = absurd (let z : _≡_ {A = ℕ} 0 1 = cc in omega arith)
-or-false-right false b e = e
-
-and-true-left : (a b : Bool) → (a && b) ≡ true → a ≡ true
-and-true-left true b e = refl
-and-true-left false b e = e
-
-and-true-right : (a b : Bool) → (a && b) ≡ true → b ≡ true
-and-true-right true b e = e
-and-true-right false b e = absurd (let z : _≡_ {A = ℕ} 0 1 = cc in omega arith)
-
 pub longest-least : (M : ℕ) → frameInRange M ≡ true → 32 ≤ M
-longest-least M e = leb-true 32 M (and-true-left (leb 32 M) (leb M 256) e)
+longest-least M e = leb-true 32 M (&&-true (leb 32 M) (leb M 256) e .0)
 
 pub longest-most : (M : ℕ) → frameInRange M ≡ true → M ≤ 256
-longest-most M e = leb-true M 256 (and-true-right (leb 32 M) (leb M 256) e)
+longest-most M e = leb-true M 256 (&&-true (leb 32 M) (leb M 256) e .1)
 
 address-lt : (bus : Bus) (a : ℕ) → addressOver bus a ≡ false → a < 256
 address-lt I2c a e = omega (arith, ltb-false 127 a e)
@@ -55,37 +40,37 @@ module _ (bus : Bus) (M destination code n : ℕ) (right : commandWrong bus M de
   destination-lt : destination < 256
   unfolding commandWrong
   destination-lt =
-      let past-table = or-false-right (not (served code && lengthAllowed code n)) _ right in
-      let past-length = or-false-right (ltb M (shortestRequest bus + n)) _ past-table in
-      address-lt bus destination (or-false-right (eqb destination 0) _ past-length)
+      let past-table = ||-false (not (served code && lengthAllowed code n)) _ right .1 in
+      let past-length = ||-false (ltb M (shortestRequest bus + n)) _ past-table .1 in
+      address-lt bus destination (||-false (eqb destination 0) _ past-length .1)
 
   code-lt : code < 256
   unfolding commandWrong
   code-lt =
-      let known = not-false (served code && lengthAllowed code n) (or-false-left (not (served code && lengthAllowed code n)) _ right) in
-      omega (arith, served-lt code (and-true-left (served code) _ known))
+      let known = not-false (served code && lengthAllowed code n) (||-false (not (served code && lengthAllowed code n)) _ right .0) in
+      omega (arith, served-lt code (&&-true (served code) _ known .0))
 
 pub fitting : (bus : Bus) (M : ℕ) (r : Request) (destination n : ℕ) → M ≤ 256 → argumentWrong bus M r destination n ≡ false
     → Fitting r destination
 unfolding argumentWrong
 fitting bus M (Plain code) destination n most e = (destination-lt bus M destination code 0 e, code-lt bus M destination code 0 e)
 fitting bus M (SetAddress address hardware) destination n most e =
-    let command = or-false-left (commandWrong bus M destination 0x01 2) _ e in
-    let own = or-false-right (commandWrong bus M destination 0x01 2) _ e in (
+    let command = ||-false (commandWrong bus M destination 0x01 2) _ e .0 in
+    let own = ||-false (commandWrong bus M destination 0x01 2) _ e .1 in (
       destination-lt bus M destination 0x01 2 command,
-      address-lt bus address (or-false-left (addressOver bus address) _ own),
-      omega (arith, ltb-false 255 hardware (or-false-right (addressOver bus address) _ own)),
+      address-lt bus address (||-false (addressOver bus address) _ own .0),
+      omega (arith, ltb-false 255 hardware (||-false (addressOver bus address) _ own .1)),
     )
 fitting bus M (Write address) destination n most e =
-    let command = or-false-left (commandWrong bus M destination 0x06 (2 + n)) _ e in
-    let own = or-false-right (commandWrong bus M destination 0x06 (2 + n)) _ e in
+    let command = ||-false (commandWrong bus M destination 0x06 (2 + n)) _ e .0 in
+    let own = ||-false (commandWrong bus M destination 0x06 (2 + n)) _ e .1 in
     (destination-lt bus M destination 0x06 (2 + n) command, flashAddress-lt address own)
 fitting bus M (Read address asked) destination n most e =
-    let command = or-false-left (commandWrong bus M destination 0x08 3) _ e in
-    let own = or-false-right (commandWrong bus M destination 0x08 3) _ e in (
+    let command = ||-false (commandWrong bus M destination 0x08 3) _ e .0 in
+    let own = ||-false (commandWrong bus M destination 0x08 3) _ e .1 in (
       destination-lt bus M destination 0x08 3 command,
-      flashAddress-lt address (or-false-left (flashAddressOver address) _ own),
-      omega (arith, ltb-false (M - shortestReply bus) asked (or-false-right (flashAddressOver address) _ own)),
+      flashAddress-lt address (||-false (flashAddressOver address) _ own .0),
+      omega (arith, ltb-false (M - shortestReply bus) asked (||-false (flashAddressOver address) _ own .1)),
     )
 fitting bus M ResetAddress destination n most e = tt
 fitting bus M Reset destination n most e = tt

@@ -93,11 +93,6 @@ unfolding overlay
 overlay-laid xs ys out n e =
     rw (take-laid xs out n e, ← e, drop-laid xs out (length ys)) (ap (λ (k : ℕ). xs ++ ys ++ drop k out) (sym (length-append xs ys)))
 
--- tests that hold together
-pub &&-true : (a b : Bool) → (a && b) ≡ true → (a ≡ true) × (b ≡ true)
-&&-true true b e = (refl, e)
-&&-true false b e = (e, cc)
-
 -- a byte that is 0 or 1
 pub zero-or-one : (P : ℕ → Type 0) (n : ℕ) → n ≤ 1 → P 0 → P 1 → P n
 zero-or-one P zero h at0 at1 = at0

@@ -8,7 +8,7 @@ use lib.Dec.{ltb}
 use lib.ListN.{getD, List·getD-eq-default}
 use borrow.Author.Tests.{ltb-true, ltb-false, eqb-true}
 use Rattle.rules.specs.Commands.{argumentRows, tabled, served}
-use Rattle.laws.proofs.UploadLaws.{by-test}
+use Rattle.laws.proofs.TestLaws.{by-test}
 
 pub tabled-past : (code column : ℕ) → 15 ≤ code → tabled code column ≡ 0
 unfolding tabled

@@ -21,7 +21,7 @@ use Rattle.rules.specs.Commands.{Response, Reply, NoReply, Acted, invalidTransf
 use Rattle.rules.specs.Board.{Called, withLast, replied, finishedCall, addressReset, handled, refused, received, readAnswered, readOut}
 use Rattle.laws.proofs.StateLaws.{UploadFacts, ReplyFacts, Unrefused, facts-wellFormed, wellFormed-facts, fresh-wellFormed}
 use Rattle.laws.proofs.StateLaws.{refusal-unrefused}
-use Rattle.laws.proofs.UploadLaws.{by-test}
+use Rattle.laws.proofs.TestLaws.{by-test}
 use Rattle.laws.proofs.CommandLaws.{Fits, FormedResult, length-reply, replying-formed-result, executed-formed-result}
 
 -- what a call leaves: a well-formed state, flash as long as d, a reply of at most M bytes

@@ -1,7 +1,7 @@
 -- Laws of the commands: whatever a command does, the upload stays well formed, flash keeps its length, and its response fits a frame of M
 -- bytes. Why: M is at least 32; the serial has at most 16 bytes, read asks for no more than fits, the other results have at most five.
 use mathlib.Core.Path.{_≡_, refl, sym}
-use mathlib.Core.Bool.{true, _||_, and-eq-true-iff}
+use mathlib.Core.Bool.{true, _||_}
 use mathlib.Core.List.{List, [], _∷_}
 use Prim.Native.Nat.{ℕ, zero, suc, _+_, _-_, _≤_}
 use native.Mathlib.Omega.{arith}
@@ -18,7 +18,8 @@ use Rattle.rules.specs.Commands.{restarted, written, finished, readable, shown,
 use Rattle.rules.specs.Commands.{commandNotSupported, invalidArguments}
 use Rattle.laws.proofs.StateLaws.{ProfileFacts, UploadFacts}
 use Rattle.laws.proofs.CheckSumLaws.{length-sealed}
-use Rattle.laws.proofs.UploadLaws.{by-test, takenAll-kept, finalized-kept}
+use Rattle.laws.proofs.TestLaws.{by-test, &&-true}
+use Rattle.laws.proofs.UploadLaws.{takenAll-kept, finalized-kept}
 
 pub length-reply : (bus : Bus) (a status : ℕ) (results : List ℕ) → length (reply bus a status results) ≡ shortestReply bus + length results
 unfolding reply
@@ -88,7 +89,7 @@ executed-cases p s (suc (suc (suc (suc (suc (suc (suc (suc (suc (suc (suc (suc (
 -- an accepted write goes on, or begins anew, just at its address
 pub next-restarted : (S n address : ℕ) (u : Upload) → accepted S (u .next) address n ≡ true → restarted address u .next ≡ address
 next-restarted S n address u e =
-    let place = and-eq-true-iff (eqb address 0 || eqb address (u .next)) (leb (address + n) S) .0 e .0 in
+    let place = &&-true (eqb address 0 || eqb address (u .next)) (leb (address + n) S) e .0 in
     by-test (eqb address 0) (λ z. rw z (sym (eqb-true address 0 z))) (λ z. rw z (sym (eqb-true address (u .next) (rw z at place))))
 
 restarted-formed : (page S address : ℕ) (u : Upload) → UploadFacts page S u → UploadFacts page S (restarted address u)
@@ -134,7 +135,7 @@ module _ (p : Profile) (facts : ProfileFacts p) (s : State) (formed : UploadFact
       by-test (readable p (numberAt args 0) (getD args 2 0))
       (λ e.
       let within =
-      and-eq-true-iff (leb (numberAt args 0 + getD args 2 0) (p .size)) (leb (getD args 2 0) (p .longest - shortestReply (p .bus))) .0 e
+      &&-true (leb (numberAt args 0 + getD args 2 0) (p .size)) (leb (getD args 2 0) (p .longest - shortestReply (p .bus))) e
       .1 in
       let held : length (take (getD args 2 0) (drop (p .offset + numberAt args 0) d)) ≤ getD args 2 0 = simp length-take (omega arith) in
       rw e
@@ -157,8 +158,8 @@ module _ (p : Profile) (facts : ProfileFacts p) (s : State) (formed : UploadFact
       by-test (accepted (p .size) (s .upload .next) (numberAt args 0) (length (drop 2 args)))
       (λ e.
       let end =
-      and-eq-true-iff (eqb (numberAt args 0) 0 || eqb (numberAt args 0) (s .upload .next))
-      (leb (numberAt args 0 + length (drop 2 args)) (p .size)) .0 e .1 in
+      &&-true (eqb (numberAt args 0) 0 || eqb (numberAt args 0) (s .upload .next))
+      (leb (numberAt args 0 + length (drop 2 args)) (p .size)) e .1 in
       let k =
       takenAll-kept p facts (record { upload = restarted (numberAt args 0) (s .upload); flash = d }) (drop 2 args) room
       (restarted-formed (p .page) (p .size) (numberAt args 0) (s .upload) formed)

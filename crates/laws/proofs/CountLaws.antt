@@ -17,7 +17,8 @@ use Rattle.rules.specs.State.{Upload}
 use Rattle.rules.specs.Commit.{Progress, pageStart, committed, taken, takenAll, finalized}
 use Rattle.laws.proofs.CommitLaws.{placed, standing, raise, committed-overlay, takenAll-append, suc-mod-below}
 use Rattle.laws.proofs.StateLaws.{length-zero, ProfileFacts}
-use Rattle.laws.proofs.UploadLaws.{by-test, suc-mod-inner, more, length-more, more-fitting, formed-fitting, takenAll-kept}
+use Rattle.laws.proofs.TestLaws.{by-test}
+use Rattle.laws.proofs.UploadLaws.{suc-mod-inner, more, length-more, more-fitting, formed-fitting, takenAll-kept}
 use Rattle.laws.proofs.ImageLaws.{begins, begins-formed, Paged, takenAll-paged, drop-overlay}
 
 -- the part of an image that goes into its page k

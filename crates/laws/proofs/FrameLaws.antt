@@ -1,7 +1,7 @@
 -- Laws of requests and replies as frames: what a board finds in a request, and what the decoder finds in a reply. Why: on each bus both are
 -- a header, a body and the body's check sum.
 use mathlib.Core.Path.{_≡_, refl, ap, _∙_}
-use mathlib.Core.Bool.{true, false, not, and-eq-true-iff}
+use mathlib.Core.Bool.{true, false, not}
 use mathlib.Core.List.{List, [], _∷_, _++_, append-assoc}
 use Prim.Native.Nat.{ℕ, _+_, _≤_}
 use native.Mathlib.Omega.{arith}
@@ -18,6 +18,7 @@ use Rattle.rules.specs.Frames.{headerLength, shortestRequest, shortestReply, re
 use Rattle.rules.specs.Frames.{commandOf, argumentsOf}
 use Rattle.rules.specs.Commands.{served}
 use Rattle.rules.specs.Master.{resultsMissing, lengthRight, fromOther, statusOf, countOf, opened, decoded}
+use Rattle.laws.proofs.TestLaws.{&&-true}
 use Rattle.laws.proofs.CommandLaws.{length-reply}
 use Rattle.laws.proofs.CheckSumLaws.{length-sealed, unsealed-sealed, sumRight-sealed}
 
@@ -51,7 +52,7 @@ destination-request beside to code arguments = refl
 -- an address of the board is not the general call
 pub addressed-address : (bus : Bus) (own : Address) (a : ℕ) → addressed bus own a ≡ true → eqb a 0 ≡ false
 unfolding addressed
-addressed-address bus own a e = not-true (eqb a 0) (and-eq-true-iff (not (eqb a 0)) _ .0 e .0)
+addressed-address bus own a e = not-true (eqb a 0) (&&-true (not (eqb a 0)) _ e .0)
 
 -- a request of at most M bytes to an address of the board
 pub framing-request : (bus : Bus) (M : ℕ) (own : Address) (beside to code : ℕ) (arguments : List ℕ)

@@ -16,7 +16,8 @@ use Rattle.rules.specs.Commit.{Progress, pageStart, taken, takenAll, finalized}
 use Rattle.laws.proofs.BytesLaws.{length-overlay, overlay-none, overlay-overlay}
 use Rattle.laws.proofs.CommitLaws.{placed, committed-overlay}
 use Rattle.laws.proofs.StateLaws.{length-zero, ProfileFacts, UploadFacts}
-use Rattle.laws.proofs.UploadLaws.{by-test, suc-mod-inner, more, length-more, more-fitting, waiting-committed, next-committed}
+use Rattle.laws.proofs.TestLaws.{by-test}
+use Rattle.laws.proofs.UploadLaws.{suc-mod-inner, more, length-more, more-fitting, waiting-committed, next-committed}
 use Rattle.laws.proofs.UploadLaws.{next-taken, formed-fitting, takenAll-kept}
 
 -- an upload of which the image's bytes are accepted so far, over the flash d that it began with: the first of them are done, the others

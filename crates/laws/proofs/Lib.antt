@@ -1,3 +1,4 @@
+pub mod TestLaws
 pub mod BytesLaws
 pub mod CommitLaws
 pub mod CheckSumLaws

@@ -15,6 +15,7 @@ use Rattle.rules.specs.declared.kinds.Bus.the-variants.{I2c, Rs485}
 use Rattle.rules.specs.Profile.{Profile, frameInRange, pageInRange, paged, sizeInRange, offsetInRange, hardwareInRange, inRange}
 use Rattle.rules.specs.State.{State, Upload, fresh, used, uploadFormed, replyFormed, wellFormed}
 use Rattle.rules.specs.Numbers.{refusal, flashShort, bufferShort}
+use Rattle.laws.proofs.TestLaws.{&&-true}
 
 -- used
 
@@ -30,12 +31,6 @@ length-used n buffer = simp (length-take, length-append, length-replicate) (omeg
 pub used-zero : (buffer : List ℕ) → used 0 buffer ≡ []
 unfolding used
 used-zero buffer = refl
-
--- tests that hold together
-
-&&-true : (a b : Bool) → (a && b) ≡ true → (a ≡ true) × (b ≡ true)
-&&-true true b e = (refl, e)
-&&-true false b e = (e, cc)
 
 -- the range rule
 

@@ -13,14 +13,10 @@ use Rattle.rules.specs.Bytes.{same, overlay}
 use Rattle.rules.specs.Profile.{Profile}
 use Rattle.rules.specs.State.{Upload}
 use Rattle.rules.specs.Commit.{Progress, pageStart, committed, taken, takenAll, finalized}
+use Rattle.laws.proofs.TestLaws.{by-test}
 use Rattle.laws.proofs.BytesLaws.{length-overlay}
 use Rattle.laws.proofs.CommitLaws.{Fitting, placed, standing, raise, committed-overlay, suc-mod-below, suc-mod-end}
 use Rattle.laws.proofs.StateLaws.{ProfileFacts, UploadFacts}
-
--- a goal by the two values of a test
-pub by-test : {G : Type 0} (b : Bool) → (b ≡ true → G) → (b ≡ false → G) → G
-by-test true then else = then refl
-by-test false then else = else refl
 
 -- the page that a commit finds
 abbrev found : Profile → Progress → List ℕ

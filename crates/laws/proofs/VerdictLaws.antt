@@ -14,7 +14,7 @@ use Rattle.rules.specs.declared.kinds.Verdict.the-variants.{Reset, Running, Res
 use Rattle.rules.specs.declared.kinds.Verdict.the-variants.{BadTransfer, BadSum, Command}
 use Rattle.rules.specs.CheckSums.{sumRight}
 use Rattle.rules.specs.Frames.{shortestRequest, resetFrame, resetAddressFrame, destination, addressed, framing, isGeneral, verdict}
-use Rattle.laws.proofs.UploadLaws.{by-test}
+use Rattle.laws.proofs.TestLaws.{by-test, ||-false}
 
 -- a well-framed command to this board
 pub record Framed (bus : Bus) (M : ℕ) (own : Address) (a : ℕ) (f : List ℕ) : Type 0 where
@@ -34,10 +34,6 @@ pub record Framings (bus : Bus) (M : ℕ) (own : Address) (a : ℕ) (f : List �
   pub bad-transfer : bus ≡ I2c → P BadTransfer
   pub bad-sum : bus ≡ I2c → P BadSum
   pub command : Framed bus M own a f → P Command
-
-||-false : (a b : Bool) → (a || b) ≡ false → (a ≡ false) × (b ≡ false)
-||-false true b e = (e, cc)
-||-false false b e = (refl, e)
 
 pub framing-cases : (bus : Bus) (M : ℕ) (own : Address) (a : ℕ) (f : List ℕ) (P : Verdict → Type 0) → Framings bus M own a f P
     → P (framing bus M own a f)

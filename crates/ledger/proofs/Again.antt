@@ -2,12 +2,13 @@
 -- write nothing is left to commit, so further finalizes do nothing; from that write on the accepted bytes are the first of those bytes
 -- (`Pieces`), and nothing counts.
 use mathlib.Core.Path.{_≡_, refl}
-use mathlib.Core.Bool.{Bool, true, false, cond, not, false≢true, and-eq-true-iff}
+use mathlib.Core.Bool.{Bool, true, false, cond, not, false≢true}
 use mathlib.Core.List.{List, [], _∷_, _++_}
 use Prim.Native.Nat.{ℕ}
 use lib.ListN.{length}
 use borrow.Author.Tests.{not-true}
 use Rattle.rules.specs.Profile.{Profile}
+use Rattle.laws.proofs.TestLaws.{&&-true}
 use Rattle.ledger.specs.Ledger.{Ledger, writes, finalizes, entered, isWrite, isFinalize, writeAddress, writeData}
 use Rattle.ledger.specs.Calls.{Call, Frame, Read, Step, fed}
 use Rattle.ledger.specs.Claim.{finalizing, finalizeStep, resetting, resetStep, Piece, writing, pieces, noReset, AcceptedAgain}
@@ -61,7 +62,7 @@ module _ (p : Profile) (D bs : List ℕ) (has : Has p D bs) where
   unfolding noReset pieces
   steps-phase [] k chain none i = i
   steps-phase (s ∷ ss) k chain none i =
-      let both = and-eq-true-iff (not (resetStep p s)) (noReset p ss) .0 none in
+      let both = &&-true (not (resetStep p s)) (noReset p ss) none in
       steps-phase ss (s .ledger) (chain .1) (both .1)
       (rw (chain .0) (step-phase s (s .call) (pieces p ss) k (not-true _ (both .0)) i))
 

@@ -18,7 +18,7 @@ use Rattle.rules.specs.Commands.{invalidTransfer, invalidCrc}
 use Rattle.rules.specs.Board.{nothing, addressReset, handled, received, readOut, readAnswered}
 use Rattle.laws.proofs.BoardLaws.{refusal-least}
 use Rattle.laws.proofs.StateLaws.{Unrefused, refusal-unrefused}
-use Rattle.laws.proofs.UploadLaws.{by-test}
+use Rattle.laws.proofs.TestLaws.{by-test}
 use Rattle.laws.proofs.VerdictLaws.{framing-cases, verdict-cases}
 use Rattle.ledger.specs.Ledger.{Ledger, resetForm}
 use Rattle.ledger.proofs.FrameReading.{reset-form}

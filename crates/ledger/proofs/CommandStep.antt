@@ -1,7 +1,7 @@
 -- A well-framed command, by its code: write and finalize are `UploadStep`'s, all others leave the upload as it is, and start loses the
 -- waiting bytes of a board that then takes none before a reset.
 use mathlib.Core.Path.{_≡_, refl, sym}
-use mathlib.Core.Bool.{true, false, _||_, false≢true, and-eq-true-iff}
+use mathlib.Core.Bool.{true, false, _||_, false≢true}
 use mathlib.Core.List.{List, [], _∷_}
 use Prim.Native.Nat.{ℕ, _≤_}
 use lib.Dec.{eqb, leb}
@@ -14,7 +14,7 @@ use Rattle.rules.specs.Frames.{twoBytes, numberAt, commandOf, argumentsOf}
 use Rattle.rules.specs.Commands.{Acted, replying, executed, setAddress, serialNumber, started, shown, lengthAllowed, tabled, addressTaken}
 use Rattle.rules.specs.Commands.{hardwareInfo, readable, commandNotSupported, invalidArguments, ok}
 use Rattle.rules.specs.Board.{finishedCall}
-use Rattle.laws.proofs.UploadLaws.{by-test}
+use Rattle.laws.proofs.TestLaws.{by-test, &&-true}
 use Rattle.laws.proofs.CommandLaws.{executed-cases}
 use Rattle.ledger.specs.Ledger.{Ledger, resetForm}
 use Rattle.ledger.proofs.Kept.{Keeps, keeps-other, Entered, error-no-entry, other-no-entry, no-reply-no-entry}
@@ -23,7 +23,7 @@ use Rattle.ledger.proofs.UploadStep.{Serving, serving-keeps, finished-e
 -- a write has at least its address
 write-long : (n : ℕ) → lengthAllowed 0x06 n ≡ true → 2 ≤ n
 unfolding tabled
-write-long n h = leb-true 2 n (and-eq-true-iff (leb 2 n) (leb n 254) .0 h .0)
+write-long n h = leb-true 2 n (&&-true (leb 2 n) (leb n 254) h .0)
 
 module _ (p : Profile) (s : State) (d : List ℕ) (k : Ledger) (a : ℕ) (f : List ℕ) (to : ℕ) (h : Serving p s d k)
     (form : resetForm (p .bus) a f ≡ false) where

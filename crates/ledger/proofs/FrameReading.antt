@@ -1,7 +1,7 @@
 -- The ledger reads frames and replies at offsets of its own, knows the reset by its literal bytes, and looks at nothing else. What it reads
 -- is what the rules mean: by the shape of a frame on each bus, computed.
 use mathlib.Core.Path.{_≡_, refl, sym, ap, _∙_}
-use mathlib.Core.Bool.{Bool, true, false, cond, _&&_, and-eq-true-iff}
+use mathlib.Core.Bool.{Bool, true, false, cond, _&&_, and-true, and-false}
 use mathlib.Core.List.{List, [], _∷_}
 use Prim.Native.Nat.{ℕ, zero, suc, _+_, _-_, _<_, _≤_}
 use native.Mathlib.Omega.{arith}
@@ -16,16 +16,9 @@ use Rattle.rules.specs.Profile.{Profile}
 use Rattle.rules.specs.Bytes.{same}
 use Rattle.rules.specs.CheckSums.{bit, byte, run, sum, sealed, unsealed}
 use Rattle.rules.specs.Frames.{reply, twoBytes, numberAt, commandOf, argumentsOf, isGeneral, resetFrame}
+use Rattle.laws.proofs.TestLaws.{&&-true}
 use Rattle.ledger.specs.Ledger.{Ledger, opened, writes, finalizes, entered, offsets, writeAddress, writeData, replyCount, resetForm}
 use Rattle.ledger.specs.Ledger.{isFinalize, answeredOk}
-
-pub and-false : (a : Bool) → (a && false) ≡ false
-and-false true = refl
-and-false false = refl
-
-and-true : (a : Bool) → (a && true) ≡ a
-and-true true = refl
-and-true false = refl
 
 -- the reset
 
@@ -146,7 +139,7 @@ module _ (p : Profile) (k : Ledger) (a : ℕ) (f : List ℕ) where
   pub entered-finalize : (n : ℕ) (r : List ℕ) → isFinalize (p .bus) f n r ≡ true → entered p k a f n r ≡ finalizes p k
   unfolding entered
   entered-finalize n r e =
-      let parts = and-eq-true-iff (eqb (getD f (offsets (p .bus) .command) 0) 0x07) _ .0 e in
-      let zero = eqb-true n 0 (and-eq-true-iff (eqb n 0) _ .0 (parts .1) .0) in
+      let parts = &&-true (eqb (getD f (offsets (p .bus) .command) 0) 0x07) _ e in
+      let zero = eqb-true n 0 (&&-true (eqb n 0) _ (parts .1) .0) in
       let seven = eqb-true (getD f (offsets (p .bus) .command) 0) 0x07 (parts .0) in
       rw (e, zero, seven, and-false (resetForm (p .bus) a f))

@@ -1,7 +1,7 @@
 -- What is kept between board and ledger from call to call, and the answers of which the ledger makes nothing: a refusal, no reply, a reply
 -- that is no OK to a write or a finalize. After these neither side has changed; after a reset both begin anew.
 use mathlib.Core.Path.{_≡_, refl, sym, _∙_}
-use mathlib.Core.Bool.{true, false, _&&_, false≢true}
+use mathlib.Core.Bool.{true, false, _&&_, and-false, false≢true}
 use mathlib.Core.List.{List, []}
 use Prim.Native.Nat.{ℕ, _≤_}
 use native.Mathlib.Omega.{arith}
@@ -19,7 +19,7 @@ use Rattle.rules.specs.Board.{Called, nothing, withLast, replied, refused}
 use Rattle.ledger.specs.Ledger.{Ledger, opened, entered, resetForm, isFinalize, replyCount}
 use Rattle.ledger.proofs.LedgerLaws.{rest}
 use Rattle.ledger.proofs.Consistency.{Consistent, opened-consistent, AfterFinalize}
-use Rattle.ledger.proofs.FrameReading.{and-false, answered-reply, entered-refused, entered-nothing, entered-reset, entered-reply}
+use Rattle.ledger.proofs.FrameReading.{answered-reply, entered-refused, entered-nothing, entered-reset, entered-reply}
 
 -- the board's state and flash are the ledger's; a running board has lost its waiting bytes, and takes none before a reset
 pub record Keeps (p : Profile) (s : State) (d : List ℕ) (k : Ledger) : Type 0 where

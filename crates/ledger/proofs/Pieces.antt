@@ -1,7 +1,7 @@
 -- Accepted writes one after the other, of bytes that flash has already: before the first of them all is committed, and from it on each
 -- begins where the one before ended, so that by `Repeat` the ledger's copy and count stay.
 use mathlib.Core.Path.{_≡_, refl, sym, _∙_}
-use mathlib.Core.Bool.{Bool, true, false, cond, and-eq-true-iff}
+use mathlib.Core.Bool.{Bool, true, false, cond}
 use mathlib.Core.List.{List, [], _∷_, _++_}
 use Prim.Native.Nat.{ℕ, _+_, _%_}
 use native.Mathlib.Omega.{arith}
@@ -10,6 +10,7 @@ use lib.Dec.{eqb}
 use lib.ListN.{length}
 use borrow.Author.Tests.{eqb-true, le-ltb}
 use Rattle.rules.specs.Profile.{Profile}
+use Rattle.laws.proofs.TestLaws.{&&-true}
 use Rattle.ledger.specs.Ledger.{Ledger, opened, commits, joins, joinsAll, writes, finalizes}
 use Rattle.ledger.specs.Claim.{Piece, follow, fromZero, joined}
 use Rattle.ledger.proofs.Consistency.{more, length-more, finalizes-accepted}
@@ -67,7 +68,7 @@ module _ (p : Profile) (D bs : List ℕ) (has : Has p D bs) where
   write-follows w ws k i = go (eqb (w .address) 0) refl
     where
       both : (eqb (w .address) (length (k .accepted)) ≡ true) × (follow (length (k .accepted) + length (w .bytes)) ws ≡ true)
-      both = and-eq-true-iff _ _ .0 (i .follows)
+      both = &&-true _ _ (i .follows)
 
       go : (t : Bool) → eqb (w .address) 0 ≡ t → Follows D bs ws (joinsAll p (cond t (opened (k .copy)) k) (w .bytes))
       go true e =
@@ -81,7 +82,7 @@ module _ (p : Profile) (D bs : List ℕ) (has : Has p D bs) where
       → Follows D bs ws (writes p k (w .address) (w .bytes))
   unfolding writes
   write-waits w ws k i =
-      let both = and-eq-true-iff (eqb (w .address) 0) (follow (length (w .bytes)) ws) .0 (i .from-zero) in
+      let both = &&-true (eqb (w .address) 0) (follow (length (w .bytes)) ws) (i .from-zero) in
       rw (both .0)
       (joined-follows (w .bytes) ws (opened (k .copy)) (opened-repeats (joined (w ∷ ws)) k (i .copy-is) (i .bytes-are))
       (rw zero-add (both .1)))

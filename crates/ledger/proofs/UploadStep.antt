@@ -1,7 +1,7 @@
 -- Write and finalize, to a board that is not running and by a call that is not refused: bytes and commits keep step by `ByteStep`, the
 -- ledger reads the board's address and data by `FrameReading`, and a finalize's reply tells the ledger's count.
 use mathlib.Core.Path.{_≡_, refl, sym, ap, _∙_}
-use mathlib.Core.Bool.{Bool, true, false, cond, _&&_, _||_, false≢true, and-eq-true-iff}
+use mathlib.Core.Bool.{Bool, true, false, cond, _&&_, _||_, false≢true}
 use mathlib.Core.List.{List, []}
 use Prim.Native.Nat.{ℕ, _+_, _<_, _≤_}
 use native.Mathlib.Omega.{arith}
@@ -15,7 +15,7 @@ use Rattle.rules.specs.Commit.{Progress, takenAll, finalized}
 use Rattle.rules.specs.Commands.{Reply, withUpload, accepted, restarted, written, finished, invalidArguments, ok}
 use Rattle.rules.specs.Board.{withLast, replied, finishedCall}
 use Rattle.laws.proofs.StateLaws.{Unrefused}
-use Rattle.laws.proofs.UploadLaws.{by-test}
+use Rattle.laws.proofs.TestLaws.{by-test, &&-true}
 use Rattle.ledger.specs.Ledger.{Ledger, opened, writes, joinsAll, finalizes, entered, writeAddress, writeData}
 use Rattle.ledger.proofs.LedgerLaws.{rest}
 use Rattle.ledger.proofs.Consistency.{Consistent, opened-consistent, finalizes-consistent, finalizes-after-finalize}
@@ -101,7 +101,7 @@ begins-going p s d k address n h e = go (eqb address 0) refl e
       room = rw (h .going .balanced .as-long) at (h .going .room);
     }
     go false z e =
-        let both = and-eq-true-iff (eqb address (s .upload .next)) (leb (address + n) (p .size)) .0 e in
+        let both = &&-true (eqb address (s .upload .next)) (leb (address + n) (p .size)) e in
         let at : address ≡ s .upload .next = eqb-true _ _ (both .0) in
         record {
           balanced = h .going .balanced;

@@ -12,7 +12,7 @@ use borrow.Author.Tests.{leb-true, leb-false}
 use Rattle.rules.specs.State as rules
 use Rattle.rules.specs.State.{used}
 use Rattle.laws.proofs.StateLaws.{used-take, length-used}
-use Rattle.laws.proofs.UploadLaws.{by-test}
+use Rattle.laws.proofs.TestLaws.{by-test}
 use Rattle.state.specs.declared.Upload.{Upload}
 use Rattle.state.specs.declared.Last.{Last}
 use Rattle.state.specs.View.{page, largestFrame, uploadOf, lastOf, view}

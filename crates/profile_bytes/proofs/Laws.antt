@@ -17,7 +17,8 @@ use Rattle.profile.specs.View.{profileOf}
 use Rattle.fields.specs.Fields.{Bytes, part, fourAt, fourBytes}
 use Rattle.profile_bytes.specs.ProfileBytes.{profileSize, profileHeld, profileSaid, profileAt, profileBytes, busOf, busByte}
 use Rattle.profile_bytes.specs.BothWays.{ProfileFits}
-use Rattle.fields.proofs.Laws.{&&-true, zero-or-one, drop-four, fourAt-fourBytes, part-four, part-more}
+use Rattle.laws.proofs.TestLaws.{&&-true}
+use Rattle.fields.proofs.Laws.{zero-or-one, drop-four, fourAt-fourBytes, part-four, part-more}
 
 -- the bus in a byte
 

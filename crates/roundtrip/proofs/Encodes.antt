@@ -1,7 +1,7 @@
 -- The encoder makes the requests of an upload: writes of allowed lengths, the finalize, and reads of allowed lengths, to an address that
 -- the board has.
 use mathlib.Core.Path.{_≡_, refl}
-use mathlib.Core.Bool.{true, false, not, _&&_, and-eq-true-iff}
+use mathlib.Core.Bool.{true, false, not, _&&_}
 use mathlib.Core.List.{List, [], _∷_, _++_}
 use Prim.Native.Nat.{ℕ, _+_, _-_, _≤_}
 use native.Mathlib.Omega.{arith}
@@ -16,6 +16,7 @@ use Rattle.rules.specs.declared.requests.Request.the-variants.{Plain, Write, Re
 use Rattle.rules.specs.Frames.{shortestRequest, shortestReply, twoBytes, request, answersTo, addressed}
 use Rattle.rules.specs.Commands.{tabled, served, lengthAllowed}
 use Rattle.rules.specs.Master.{addressOver, commandWrong, argumentWrong, requestBytes, encoded}
+use Rattle.laws.proofs.TestLaws.{&&-true}
 use Rattle.laws.proofs.StateLaws.{Unrefused, refusal-unrefused}
 use Rattle.laws.proofs.FrameLaws.{length-request, addressed-address}
 use Rattle.roundtrip.specs.Sending.{encoding}
@@ -34,8 +35,8 @@ shortestReply-within Rs485 = (omega arith, omega arith)
 addressed-within : (b : Bus) (own : Address) (a : ℕ) → addressed b own a ≡ true → a ≤ 255 → addressOver b a ≡ false
 unfolding addressed
 addressed-within I2c own a e byte =
-    let fits = and-eq-true-iff (not (eqb a 0)) (ltb a 128 && answersTo own a) .0 e .1 in
-    le-ltb 127 a (omega (arith, ltb-true a 128 (and-eq-true-iff (ltb a 128) (answersTo own a) .0 fits .0)))
+    let fits = &&-true (not (eqb a 0)) (ltb a 128 && answersTo own a) e .1 in
+    le-ltb 127 a (omega (arith, ltb-true a 128 (&&-true (ltb a 128) (answersTo own a) fits .0)))
 addressed-within Rs485 own a e byte = le-ltb 255 a byte
 
 -- no test stands against a request

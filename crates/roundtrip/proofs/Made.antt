@@ -1,6 +1,6 @@
 -- What holds where the encoder makes a request: its bytes, and that no test of the encoder stood against it.
 use mathlib.Core.Path.{_≡_, refl}
-use mathlib.Core.Bool.{Bool, true, false, cond, not, _&&_, _||_, and-eq-true-iff}
+use mathlib.Core.Bool.{Bool, true, false, cond, not, _&&_, _||_}
 use mathlib.Core.List.{List}
 use Prim.Native.Nat.{ℕ, _+_, _≤_}
 use native.Mathlib.Omega.{arith}
@@ -13,10 +13,7 @@ use Rattle.rules.specs.Profile.{frameInRange}
 use Rattle.rules.specs.Frames.{shortestRequest}
 use Rattle.rules.specs.Commands.{served, lengthAllowed}
 use Rattle.rules.specs.Master.{Encoding, unmade, requestBytes, addressOver, commandWrong, argumentWrong, encoded}
-
-pub ||-false : (a b : Bool) → (a || b) ≡ false → (a ≡ false) × (b ≡ false)
-||-false true b e = (e, cc)
-||-false false b e = (refl, e)
+use Rattle.laws.proofs.TestLaws.{&&-true, ||-false}
 
 pub record Made (bus : Bus) (M : ℕ) (r : Request) (to : ℕ) (bytes : List ℕ) (room : ℕ) : Type 0 where
   pub bytes-are : encoded bus M r to bytes room .bytes ≡ requestBytes bus r to bytes
@@ -54,7 +51,7 @@ unfolding commandWrong
 commandWrong-allowed bus M to code n e =
     let tabled = ||-false (not (served code && lengthAllowed code n)) _ e in
     let sized = ||-false (ltb M (shortestRequest bus + n)) _ (tabled .1) in
-    let row = and-eq-true-iff (served code) (lengthAllowed code n) .0 (not-false _ (tabled .0)) in
+    let row = &&-true (served code) (lengthAllowed code n) (not-false _ (tabled .0)) in
     record {
       is-served = row .0;
       length-allowed = row .1;

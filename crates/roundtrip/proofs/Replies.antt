@@ -19,7 +19,7 @@ use Rattle.rules.specs.Frames.{shortestReply, reply, addressed}
 use Rattle.rules.specs.Commands.{Response, Reply, NoReply, Acted, addressTaken, setAddress, performed, served}
 use Rattle.rules.specs.Board.{Called, withLast, readAnswered, readOut}
 use Rattle.rules.specs.Master.{resultsMissing, decodedRead, resultsIn, resultBytes, whichRead, addressOver}
-use Rattle.laws.proofs.UploadLaws.{by-test}
+use Rattle.laws.proofs.TestLaws.{by-test}
 use Rattle.laws.proofs.StateLaws.{Unrefused, refusal-unrefused, unrefused-refusal}
 use Rattle.laws.proofs.CommandLaws.{length-reply}
 use Rattle.laws.proofs.BoardLaws.{FormedCall, received-formed-call}

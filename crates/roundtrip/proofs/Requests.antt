@@ -28,7 +28,8 @@ use Rattle.laws.proofs.FrameLaws.{argumentsOf-request, commandOf-request, desti
 use Rattle.roundtrip.specs.Sending.{Sending, Instruction, Commands, AddressReset, BoardReset, Given, Beside, AddressedBy, bus}
 use Rattle.roundtrip.specs.Sending.{encoding, frame, call, instructionOf, instruction, target}
 use Rattle.roundtrip.specs.Understood.{verdictOn, TakenAs, Understood, Carried, RequestsUnderstood}
-use Rattle.roundtrip.proofs.Made.{||-false, encoded-made, Allowed, commandWrong-allowed}
+use Rattle.laws.proofs.TestLaws.{||-false}
+use Rattle.roundtrip.proofs.Made.{encoded-made, Allowed, commandWrong-allowed}
 
 -- the command that a request asks for passed the encoder's tests
 abbrev pub AllowedBy : Bus → ℕ → ℕ → Instruction → Type 0

@@ -2,7 +2,7 @@
 -- (`executed-cases`); a read within S shows as many bytes as it asks for. A command that replies keeps the board stopped, and only set
 -- address moves it.
 use mathlib.Core.Path.{_≡_, refl}
-use mathlib.Core.Bool.{false, _||_, and-eq-true-iff}
+use mathlib.Core.Bool.{false, _||_}
 use mathlib.Core.List.{List, [], _∷_}
 use Prim.Native.Nat.{ℕ, _+_, _-_, _≤_}
 use native.Mathlib.Omega.{arith}
@@ -16,7 +16,7 @@ use Rattle.rules.specs.Frames.{shortestReply, twoBytes, numberAt}
 use Rattle.rules.specs.Commands.{Response, Reply, NoReply, Acted, replying, setAddress, hardwareInfo, serialNumber, accepted, written}
 use Rattle.rules.specs.Commands.{finished, readable, shown, executed, ok, commandNotSupported, invalidArguments}
 use Rattle.rules.specs.Master.{fixedPart, resultsMissing}
-use Rattle.laws.proofs.UploadLaws.{by-test}
+use Rattle.laws.proofs.TestLaws.{by-test, &&-true}
 use Rattle.laws.proofs.CommandLaws.{executed-cases}
 
 -- a command that responds with a status and results
@@ -89,7 +89,7 @@ module _ (p : Profile) (s : State) (d : List ℕ) (code asked : ℕ) where
       (λ e.
       let within : numberAt args 0 + getD args 2 0 ≤ p .size =
       leb-true (numberAt args 0 + getD args 2 0) (p .size)
-      (and-eq-true-iff (leb (numberAt args 0 + getD args 2 0) (p .size)) (leb (getD args 2 0) (p .longest - shortestReply (p .bus))) .0 e
+      (&&-true (leb (numberAt args 0 + getD args 2 0) (p .size)) (leb (getD args 2 0) (p .longest - shortestReply (p .bus))) e
       .0) in
       let held : length (take (getD args 2 0) (drop (p .offset + numberAt args 0) d)) ≡ getD args 2 0 =
       length-take-le (getD args 2 0) (drop (p .offset + numberAt args 0) d) (simp length-drop (omega arith)) in

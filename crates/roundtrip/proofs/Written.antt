@@ -17,7 +17,8 @@ use Rattle.rules.specs.Commit.{Progress, takenAll}
 use Rattle.rules.specs.Frames.{twoBytes, numberAt}
 use Rattle.rules.specs.Commands.{Reply, withUpload, restarted, written, performed, ok}
 use Rattle.laws.proofs.CommitLaws.{takenAll-append}
-use Rattle.laws.proofs.UploadLaws.{by-test, next-takenAll}
+use Rattle.laws.proofs.TestLaws.{by-test}
+use Rattle.laws.proofs.UploadLaws.{next-takenAll}
 use Rattle.laws.proofs.StateLaws.{ProfileFacts, refusal-unrefused}
 use Rattle.laws.proofs.ImageLaws.{begins}
 use Rattle.roundtrip.specs.Exchanges.{Line, Board, Ready, Message, sending, after, exchanges, left, EachOk}

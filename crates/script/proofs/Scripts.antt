@@ -8,7 +8,7 @@ use native.Mathlib.Omega.{arith}
 use lib.ListN.{length, take, drop, getD, length-drop}
 use lib.Seq.{getD-drop, drop-drop}
 use borrow.Author.Tests.{lt-leb}
-use Rattle.laws.proofs.UploadLaws.{by-test}
+use Rattle.laws.proofs.TestLaws.{by-test}
 use Rattle.ledger.specs.Calls.{Call}
 use Rattle.refinement.specs.Happened.{callWith}
 use Rattle.script.specs.Script.{head, inputBy, frameLength, whole, input, callsOfRecords, callsIn}

@@ -23,7 +23,8 @@ use Rattle.fields.specs.Fields.{Bytes, part, fourAt, fourBytes}
 use Rattle.state_bytes.specs.StateBytes.{stateSize, stateHeld, stateSaid, noState, stateAt, kindByte, ownByte, runningByte, headBytes}
 use Rattle.state_bytes.specs.StateBytes.{stateBytes, stateWritten}
 use Rattle.state_bytes.specs.BothWays.{StateFits}
-use Rattle.fields.proofs.Laws.{&&-true, drop-four, fourAt-fourBytes, part-four, part-more, overlay-first, overlay-laid, laid-part}
+use Rattle.laws.proofs.TestLaws.{&&-true}
+use Rattle.fields.proofs.Laws.{drop-four, fourAt-fourBytes, part-four, part-more, overlay-first, overlay-laid, laid-part}
 use Rattle.state_bytes.proofs.FlagLaws.{addressOf-bytes, kindByte-addressOf, ownByte-addressOf, running-byte, runningByte-byte}
 use Rattle.state_bytes.proofs.FlagLaws.{kindByte-most, runningByte-most}
 

@@ -1,6 +1,6 @@
 -- What write and finalize ask of the upload holds where none of the numbers 2 to 5 applies.
 use mathlib.Core.Path.{_≡_, refl, sym, ap, _∙_}
-use mathlib.Core.Bool.{Bool, true, false, _||_, and-eq-true-iff}
+use mathlib.Core.Bool.{Bool, true, false, _||_}
 use mathlib.Core.List.{List}
 use Prim.Native.Nat.{ℕ, _+_, _-_, _≤_}
 use native.Mathlib.Omega.{arith}
@@ -12,6 +12,7 @@ use Rattle.rules.specs.Profile.{inRange}
 use Rattle.rules.specs.State as rules
 use Rattle.rules.specs.State.{uploadFormed}
 use Rattle.rules.specs.Commands.{accepted, restarted}
+use Rattle.laws.proofs.TestLaws.{&&-true}
 use Rattle.laws.proofs.StateLaws.{uploadFormed-facts, facts-uploadFormed}
 use Rattle.state.specs.declared.State.{State}
 use Rattle.state.specs.declared.Upload.{Upload}
@@ -53,7 +54,7 @@ pub accepted-fits : (S a n : ℕ) (u : rules.Upload) → accepted S (u .next) a 
 accepted-fits S a n u e = go (eqb a 0) refl
   where
     parts : ((eqb a 0 || eqb a (u .next)) ≡ true) × (leb (a + n) S ≡ true)
-    parts = and-eq-true-iff (eqb a 0 || eqb a (u .next)) (leb (a + n) S) .0 e
+    parts = &&-true (eqb a 0 || eqb a (u .next)) (leb (a + n) S) e
 
     go : (b : Bool) → eqb a 0 ≡ b → restarted a u .next + n ≤ S
     go true f = rw f (omega (arith, leb-true (a + n) S (parts .1)))
