@@ -10,9 +10,9 @@ use Rattle.rules.specs.Bytes.{overlay}
 use Rattle.rules.specs.State as rules
 use Rattle.rules.specs.Numbers.{laid}
 use Rattle.rules.specs.Frames.{headerLength, shortestReply, reply}
-use Rattle.rules.specs.Commands as commands
-use Rattle.rules.specs.Commands.{Acted, Reply, NoReply}
-use Rattle.rules.specs.Board.{finishedCall, withLast, nothing}
+use Rattle.rules.specs.Responses as responses
+use Rattle.rules.specs.Responses.{Acted, Reply, NoReply}
+use Rattle.rules.specs.Board.{finishedCall, withReply, nothing}
 use Rattle.laws.proofs.CommandLaws.{length-reply}
 use Rattle.laws.proofs.LaidLaws.{take-laid}
 use Rattle.state.specs.View.{view}
@@ -59,11 +59,11 @@ pub with-reply-ruled : (bus : Bus) (to status count n : ℕ) (done : Done) (s : 
     → done .response ≡ response.Reply status count → length o ≡ length out1
     → buffered.commandEffect done d out1 ≡ buffered.ruledCommand a o (headerLength bus + 2)
     → count + shortestReply bus ≤ length out1 → Closing bus to status count out1 out2 n
-    → s ≡ withLast bus (view (done .state)) (take n out2)
+    → s ≡ withReply bus (view (done .state)) (take n out2)
     → _≡_ {A = CallEffect} (record { number = 0; made = n; state = s; flash = d; out = out2 }) (expectedEffect (finishedCall bus to a) o)
 with-reply-ruled bus to status count n done s d o out1 out2 a said long acted room closing kept = go (a .response) refl
   where
-    go : (r : commands.Response) → a .response ≡ r
+    go : (r : responses.Response) → a .response ≡ r
         → _≡_ {A = CallEffect} (record { number = 0; made = n; state = s; flash = d; out = out2 })
         (expectedEffect (finishedCall bus to a) o)
     go NoReply e =
@@ -78,22 +78,22 @@ with-reply-ruled bus to status count n done s d o out1 out2 a said long acted ro
         let whole = reply bus to st results in
         let out1-is : out1 ≡ overlay o (headerLength bus + 2) results =
         ap (λ (x : buffered.CommandEffect). x .out) acted
-        ∙ ap (λ (x : commands.Response). buffered.resultsIn x o (headerLength bus + 2)) e in
+        ∙ ap (λ (x : responses.Response). buffered.resultsIn x o (headerLength bus + 2)) e in
         let out2-is : out2 ≡ laid whole o =
         closed-laid bus to st results o out1 out2 (omega arith) out1-is (rw (status-is, count-is) at (closing .bytes-are)) in
         let n-is : n ≡ length whole = closing .length-is ∙ omega (arith, length-reply bus to st results) in
-        let kept-is : s ≡ withLast bus (a .state) whole =
+        let kept-is : s ≡ withReply bus (a .state) whole =
         kept ∙ rw (out2-is, take-laid whole o n (sym n-is), ap (λ (x : buffered.CommandEffect). x .state) acted) in
         rw (e, n-is, kept-is, out2-is, ap (λ (x : buffered.CommandEffect). x .flash) acted)
 
 -- and without a reply
 pub no-reply-ruled : (bus : Bus) (to : ℕ) (done : Done) (s : rules.State) (d o out1 : List ℕ) (a : Acted)
     → done .response ≡ response.NoReply → buffered.commandEffect done d out1 ≡ buffered.ruledCommand a o (headerLength bus + 2)
-    → s ≡ withLast bus (view (done .state)) []
+    → s ≡ withReply bus (view (done .state)) []
     → _≡_ {A = CallEffect} (record { number = 1; made = 0; state = s; flash = d; out = out1 }) (expectedEffect (finishedCall bus to a) o)
 no-reply-ruled bus to done s d o out1 a said acted kept = go (a .response) refl
   where
-    go : (r : commands.Response) → a .response ≡ r
+    go : (r : responses.Response) → a .response ≡ r
         → _≡_ {A = CallEffect} (record { number = 1; made = 0; state = s; flash = d; out = out1 })
         (expectedEffect (finishedCall bus to a) o)
     go (Reply st results) e =
@@ -103,5 +103,5 @@ no-reply-ruled bus to done s d o out1 a said acted kept = go (a .response) refl
     go NoReply e =
         let out-is : out1 ≡ o =
         ap (λ (x : buffered.CommandEffect). x .out) acted
-        ∙ ap (λ (x : commands.Response). buffered.resultsIn x o (headerLength bus + 2)) e in
+        ∙ ap (λ (x : responses.Response). buffered.resultsIn x o (headerLength bus + 2)) e in
         rw (e, kept, out-is, ap (λ (x : buffered.CommandEffect). x .state) acted, ap (λ (x : buffered.CommandEffect). x .flash) acted)

@@ -11,8 +11,8 @@ ghost use Prim.Native.Nat.{ℕ, _+_, _≤_};
 ghost use lib.ListN.{length};
 ghost use Rattle.rules.specs.Frames as frames;
 ghost use Rattle.rules.specs.Frames.{headerLength};
-ghost use Rattle.rules.specs.Commands as commands;
-ghost use Rattle.rules.specs.Commands.{Acted};
+ghost use Rattle.rules.specs.Responses as responses;
+ghost use Rattle.rules.specs.Responses.{Acted};
 ghost use Rattle.rules.specs.Board.{finishedCall, nothing};
 ghost use Rattle.state.specs.View.{view};
 ghost use Rattle.response.specs.Done as buffered;
@@ -73,7 +73,7 @@ pub fn respond(bus: Bus, to: u8, done: Done, out: &mut [u8]) -> Answer
 pub fn fault(bus: Bus, to: u8, s: State, status: u8, out: &mut [u8]) -> Answer
     requires { ⌜ 32 ≤ length (now out) ⌝ }
     ensures { λ r. ⌜ ((d : List ℕ) → callEffect r d (now (out .exit))
-        ≡ expectedEffect (finishedCall bus to (commands.replying (view s) d status [])) (now (out .entry))) ⌝ }
+        ≡ expectedEffect (finishedCall bus to (responses.replying (view s) d status [])) (now (out .entry))) ⌝ }
 {
     let done = Done {
         response: Response::Reply { status, count: 0 },

@@ -13,7 +13,8 @@ use Rattle.rules.specs.declared.kinds.Verdict.the-variants.{BadTransfer, BadSum
 use Rattle.rules.specs.Profile.{Profile}
 use Rattle.rules.specs.State as rules
 use Rattle.rules.specs.Frames.{shortestRequest, verdict, destination, commandOf, argumentsOf}
-use Rattle.rules.specs.Commands.{Response, Reply, NoReply, Acted, executed}
+use Rattle.rules.specs.Responses.{Response, Reply, NoReply, Acted}
+use Rattle.rules.specs.Commands.{executed}
 use Rattle.rules.specs.Board.{replied, handled}
 use Rattle.laws.proofs.VerdictLaws.{framing-cases, verdict-cases}
 use Rattle.response.specs.declared.Response as response

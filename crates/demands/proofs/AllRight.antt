@@ -9,10 +9,11 @@ use lib.ListN.{length}
 use Rattle.rules.specs.Profile.{Profile, inRange}
 use Rattle.rules.specs.State.{State, Upload, fresh, wellFormed}
 use Rattle.rules.specs.Frames.{reply, destination, commandOf, argumentsOf}
-use Rattle.rules.specs.Commands.{Acted, Reply, replying, executed, ok, invalidArguments}
+use Rattle.rules.specs.Responses.{Acted, Reply, replying, ok, invalidArguments}
+use Rattle.rules.specs.Commands.{executed}
 use Rattle.rules.specs.Board.{Called, finishedCall, received, readOut}
 use Rattle.laws.proofs.StateLaws.{inRange-facts, unrefused-refusal, fresh-wellFormed}
-use Rattle.laws.proofs.BoardLaws.{withLast-upload, received-handled, received-formed-call, readOut-formed-call, readOut-state}
+use Rattle.laws.proofs.BoardLaws.{withReply-upload, received-handled, received-formed-call, readOut-formed-call, readOut-state}
 use Rattle.ledger.specs.Ledger.{Ledger, opened}
 use Rattle.ledger.specs.Calls.{Call, Frame, Read, reaction, ruled, Step, fed, stepped, trace}
 use Rattle.demands.specs.Past.{Past, wellFramed}
@@ -39,7 +40,7 @@ module _ (p : Profile) (k : Ledger) (a : ℕ) (f : List ℕ) (n : ℕ) where
   replying-answers s d act status results e = (
     reply-answers act status results (ap (λ (x : Acted). x .response) e),
     rw e,
-    rw e (ap (λ (u : Upload). u .count) (withLast-upload (p .bus) s (reply (p .bus) (destination (p .bus) a f) status results))),
+    rw e (ap (λ (u : Upload). u .count) (withReply-upload (p .bus) s (reply (p .bus) (destination (p .bus) a f) status results))),
   )
 
   module _ (s : State) (d : List ℕ) (range : inRange p ≡ true) (room : p .offset + p .size ≤ length d)

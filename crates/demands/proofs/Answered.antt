@@ -17,7 +17,8 @@ use Rattle.rules.specs.Profile.{Profile}
 use Rattle.rules.specs.State.{State}
 use Rattle.rules.specs.CheckSums.{sumRight}
 use Rattle.rules.specs.Frames.{shortestRequest, destination, commandOf, argumentsOf, numberAt, framing, verdict}
-use Rattle.rules.specs.Commands.{Reply, replying, accepted, written, readable, shown, performed, executed, tabled, ok, invalidArguments}
+use Rattle.rules.specs.Responses.{Reply, replying, ok, invalidArguments}
+use Rattle.rules.specs.Commands.{accepted, written, readable, shown, performed, executed, tabled}
 use Rattle.rules.specs.Board.{finishedCall, handled}
 use Rattle.laws.proofs.TestLaws.{by-test, &&-true}
 use Rattle.laws.proofs.VerdictLaws.{Framed, framing-cases, verdict-cases}

@@ -10,12 +10,12 @@ use lib.ListN.{length, getD, drop}
 use borrow.Author.Tests.{leb-true}
 use Rattle.rules.specs.declared.kinds.Address.the-variants.{Own}
 use Rattle.rules.specs.Profile.{Profile}
-use Rattle.rules.specs.State.{State}
+use Rattle.rules.specs.State.{State, withUpload}
 use Rattle.rules.specs.Frames.{reply, destination, commandOf, argumentsOf, numberAt, twoBytes, resetFrame, resetAddressFrame, isGeneral}
 use Rattle.rules.specs.Commit.{Progress, takenAll, finalized}
-use Rattle.rules.specs.Commands.{Acted, Reply, replying, withUpload, addressTaken, setAddress, hardwareInfo, serialNumber, started}
-use Rattle.rules.specs.Commands.{accepted, restarted, written, finished, readable, shown, executed, tabled, lengthAllowed, ok}
-use Rattle.rules.specs.Commands.{commandNotSupported, invalidArguments}
+use Rattle.rules.specs.Responses.{Acted, Reply, replying, ok, commandNotSupported, invalidArguments}
+use Rattle.rules.specs.Commands.{addressTaken, setAddress, hardwareInfo, serialNumber, started, accepted, restarted, written, finished}
+use Rattle.rules.specs.Commands.{readable, shown, executed, tabled, lengthAllowed}
 use Rattle.rules.specs.Board.{Called, finishedCall}
 use Rattle.laws.proofs.TestLaws.{by-test, &&-true}
 use Rattle.laws.proofs.UploadLaws.{next-takenAll, next-finalized}
@@ -23,7 +23,7 @@ use Rattle.laws.proofs.CommandLaws.{next-restarted, executed-cases}
 use Rattle.ledger.specs.Ledger.{writeAddress, writeData}
 use Rattle.ledger.proofs.FrameReading.{write-address, write-data}
 use Rattle.demands.specs.Past.{wellFramed, afterFrame}
-use Rattle.demands.proofs.PastLaws.{pastOf, pastOf-withLast, after-silence, after-reply, after-address, after-write}
+use Rattle.demands.proofs.PastLaws.{pastOf, pastOf-withReply, after-silence, after-reply, after-address, after-write}
 
 -- the tracker fed with what a call answers shows what the call leaves
 abbrev pub Follows : Profile → State → ℕ → List ℕ → Called → Type 0
@@ -46,7 +46,7 @@ module _ (p : Profile) (s : State) (a : ℕ) (f d : List ℕ) where
       → afterFrame p (pastOf s) a f 0 (reply (p .bus) (destination (p .bus) a f) status results) ≡ pastOf left
       → Followed p s a f (record { response = Reply status results; state = left; flash = e })
   reply-followed left e status results h =
-      h ∙ sym (pastOf-withLast (p .bus) left (reply (p .bus) (destination (p .bus) a f) status results))
+      h ∙ sym (pastOf-withReply (p .bus) left (reply (p .bus) (destination (p .bus) a f) status results))
 
   -- one that changes nothing, to another command than set address and write, or not OK
   replying-followed : (status : ℕ) (results : List ℕ) → (eqb (commandOf (p .bus) f) 0x01 && eqb status 0) ≡ false
@@ -130,14 +130,14 @@ module _ (p : Profile) (s : State) (a : ℕ) (f d : List ℕ) where
         (λ e.
         rw e
         (after-silence p (pastOf s) a f [] no-reset (rw no-address (and-false (not (s .running)))) (rw (heard, is))
-        ∙ sym (pastOf-withLast (p .bus) s [])))
+        ∙ sym (pastOf-withReply (p .bus) s [])))
 
     start-followed : commandOf (p .bus) f ≡ 0x05 → lengthAllowed 0x05 (length (argumentsOf (p .bus) f)) ≡ true
         → Followed p s a f (started s d)
     unfolding afterFrame tabled
     start-followed is allowed =
         let none : length (argumentsOf (p .bus) f) ≡ 0 = omega (arith, allowed-most 0x05 (length (argumentsOf (p .bus) f)) allowed) in
-        rw (no-reset, no-address, and-false (not (s .running)), heard, is, none) (sym (pastOf-withLast (p .bus) (started s d .state) []))
+        rw (no-reset, no-address, and-false (not (s .running)), heard, is, none) (sym (pastOf-withReply (p .bus) (started s d .state) []))
 
     pub executed-followed : Followed p s a f (executed p s (commandOf (p .bus) f) (argumentsOf (p .bus) f) d)
     executed-followed =

@@ -17,11 +17,11 @@ use Rattle.rules.specs.State.{State}
 use Rattle.rules.specs.Numbers.{refusal}
 use Rattle.rules.specs.CheckSums.{sumRight}
 use Rattle.rules.specs.Frames.{reply, destination, addressed, resetFrame, isGeneral, verdict}
-use Rattle.rules.specs.Commands.{invalidTransfer, invalidCrc}
+use Rattle.rules.specs.Responses.{invalidTransfer, invalidCrc}
 use Rattle.rules.specs.Board.{handled, received}
 use Rattle.laws.proofs.TestLaws.{by-test, &&-true}
 use Rattle.laws.proofs.VerdictLaws.{Framed, framing-cases, verdict-cases}
-use Rattle.laws.proofs.BoardLaws.{withLast-upload, received-handled, received-refused}
+use Rattle.laws.proofs.BoardLaws.{withReply-upload, received-handled, received-refused}
 use Rattle.laws.proofs.BytesLaws.{same-true}
 use Rattle.laws.proofs.CheckSumLaws.{sumRight-sealed}
 use Rattle.demands.specs.Untouched.{foreign, summed, damaged, IgnoredFrames}
@@ -88,8 +88,8 @@ ignored-kept p s a f d stray =
             wrong-sum = λ b. (refl, refl);
             foreign = (refl, refl);
             other-general = (refl, refl);
-            bad-transfer = λ b. (refl, withLast-upload (p .bus) s (status invalidTransfer));
-            bad-sum = λ b. (refl, withLast-upload (p .bus) s (status invalidCrc));
+            bad-transfer = λ b. (refl, withReply-upload (p .bus) s (status invalidTransfer));
+            bad-sum = λ b. (refl, withReply-upload (p .bus) s (status invalidCrc));
             command = λ framed. absurd (stray .not-framed framed);
           });
     })

@@ -13,8 +13,10 @@ use Rattle.rules.specs.declared.kinds.Address.the-variants.{Own}
 use Rattle.rules.specs.Profile.{Profile}
 use Rattle.rules.specs.State.{State}
 use Rattle.rules.specs.Frames.{reply, commandOf, argumentsOf, resetFrame, resetAddressFrame, isGeneral}
-use Rattle.rules.specs.Commands.{addressTaken, ok}
-use Rattle.rules.specs.Board.{withLast}
+use Rattle.rules.specs.Responses.{ok}
+use Rattle.rules.specs.Commands.{addressTaken}
+use Rattle.rules.specs.Board.{withReply}
+use Rattle.laws.proofs.BoardLaws.{withReply-kept}
 use Rattle.ledger.specs.Ledger.{offsets, answeredOk, writeAddress, writeData}
 use Rattle.ledger.proofs.FrameReading.{answered-reply}
 use Rattle.demands.specs.Past.{Past, wellFramed, afterFrame}
@@ -24,9 +26,8 @@ abbrev pub pastOf : State → Past
 pastOf s = record { running = s .running; address = s .address; next = s .upload .next }
 
 -- the last reply is not seen
-pub pastOf-withLast : (bus : Bus) (s : State) (r : List ℕ) → pastOf (withLast bus s r) ≡ pastOf s
-pastOf-withLast I2c s r = refl
-pastOf-withLast Rs485 s r = refl
+pub pastOf-withReply : (bus : Bus) (s : State) (r : List ℕ) → pastOf (withReply bus s r) ≡ pastOf s
+pastOf-withReply = withReply-kept pastOf (λ s l. refl)
 
 -- only number 0 answers OK
 answeredOk-other : (bus : Bus) (code : ℕ) (f : List ℕ) (number : ℕ) (r : List ℕ) → eqb number 0 ≡ false

@@ -13,7 +13,7 @@ use Rattle.rules.specs.Profile.{Profile}
 use Rattle.rules.specs.State.{State}
 use Rattle.rules.specs.Numbers.{refusal}
 use Rattle.rules.specs.Frames.{resetFrame, resetAddressFrame, isGeneral, framing, verdict}
-use Rattle.rules.specs.Commands.{invalidTransfer, invalidCrc}
+use Rattle.rules.specs.Responses.{invalidTransfer, invalidCrc}
 use Rattle.rules.specs.Board.{nothing, handled, received}
 use Rattle.laws.proofs.TestLaws.{by-test}
 use Rattle.laws.proofs.VerdictLaws.{framing-cases, verdict-cases}

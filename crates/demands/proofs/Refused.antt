@@ -15,7 +15,8 @@ use Rattle.rules.specs.Profile.{Profile}
 use Rattle.rules.specs.State.{State}
 use Rattle.rules.specs.Numbers.{refusal}
 use Rattle.rules.specs.Frames.{commandOf, argumentsOf, destination, verdict}
-use Rattle.rules.specs.Commands.{Response, Reply, NoReply, Acted, executed}
+use Rattle.rules.specs.Responses.{Response, Reply, NoReply, Acted}
+use Rattle.rules.specs.Commands.{executed}
 use Rattle.rules.specs.Board.{Called, replied, handled, refused, received, readAnswered, readOut}
 use Rattle.laws.proofs.TestLaws.{by-test}
 use Rattle.laws.proofs.BoardLaws.{received-handled, received-refused}

@@ -9,7 +9,8 @@ use Rattle.rules.specs.declared.kinds.Bus.the-variants.{Rs485}
 use Rattle.rules.specs.Profile.{Profile, inRange}
 use Rattle.rules.specs.CheckSums.{sumRight}
 use Rattle.rules.specs.Frames.{reply, destination, commandOf, argumentsOf, numberAt}
-use Rattle.rules.specs.Commands.{accepted, readable, ok, invalidArguments}
+use Rattle.rules.specs.Responses.{ok, invalidArguments}
+use Rattle.rules.specs.Commands.{accepted, readable}
 use Rattle.ledger.specs.Calls.{Call, Frame, Read, Board, Step, traced}
 use Rattle.demands.specs.Past.{Past, initialPast, wellFramed, after}
 

@@ -14,11 +14,11 @@ use Rattle.rules.specs.declared.kinds.Verdict.{Verdict}
 use Rattle.rules.specs.declared.kinds.Verdict.the-variants.{Reset, Running, ResetAddress, Short, Long, WrongSum, Foreign, OtherGeneral}
 use Rattle.rules.specs.declared.kinds.Verdict.the-variants.{BadTransfer, BadSum, Command}
 use Rattle.rules.specs.Profile.{Profile, inRange}
-use Rattle.rules.specs.State.{State, fresh, wellFormed}
+use Rattle.rules.specs.State.{State, fresh, withLast, wellFormed}
 use Rattle.rules.specs.Numbers.{refusal, flashShort, bufferShort}
 use Rattle.rules.specs.Frames.{reply, destination, verdict, commandOf, argumentsOf}
-use Rattle.rules.specs.Commands.{Response, Reply, NoReply, Acted, invalidTransfer, invalidCrc}
-use Rattle.rules.specs.Board.{Called, withLast, replied, finishedCall, addressReset, handled, refused, received, readAnswered, readOut}
+use Rattle.rules.specs.Responses.{Response, Reply, NoReply, Acted, invalidTransfer, invalidCrc}
+use Rattle.rules.specs.Board.{Called, withReply, replied, finishedCall, addressReset, handled, refused, received, readAnswered, readOut}
 use Rattle.laws.proofs.StateLaws.{UploadFacts, ReplyFacts, Unrefused, facts-wellFormed, wellFormed-facts, fresh-wellFormed}
 use Rattle.laws.proofs.StateLaws.{refusal-unrefused}
 use Rattle.laws.proofs.TestLaws.{by-test}
@@ -34,28 +34,33 @@ pub record FormedCall (p : Profile) (d : List ℕ) (c : Called) : Type 0 where
 nothing-formed : (p : Profile) (number : ℕ) (s : State) (d : List ℕ) → wellFormed p s ≡ true → FormedCall p d (refused number s d)
 nothing-formed p number s d formed = record { well-formed = formed; flash-length = refl; reply-most = omega arith }
 
-pub withLast-upload : (bus : Bus) (s : State) (r : List ℕ) → withLast bus s r .upload ≡ s .upload
-withLast-upload I2c s r = refl
-withLast-upload Rs485 s r = refl
+-- a reply changes the last reply alone: what does not look at it stays
+pub withReply-kept : {A : Type 0} (get : State → A) → ((s : State) (l : List ℕ) → get (withLast s l) ≡ get s)
+    → (bus : Bus) (s : State) (r : List ℕ) → get (withReply bus s r) ≡ get s
+withReply-kept get kept I2c s r = kept s r
+withReply-kept get kept Rs485 s r = kept s []
 
-withLast-reply : (bus : Bus) (M : ℕ) (s : State) (r : List ℕ) → length r ≤ M → ReplyFacts bus M (withLast bus s r .last)
-withLast-reply I2c M s r h = record { last-most = h; last-none = λ e. cc }
-withLast-reply Rs485 M s r h = record { last-most = omega arith; last-none = λ e. refl }
+pub withReply-upload : (bus : Bus) (s : State) (r : List ℕ) → withReply bus s r .upload ≡ s .upload
+withReply-upload = withReply-kept (λ (s : State). s .upload) (λ s l. refl)
 
-withLast-formed : (p : Profile) (s : State) (r : List ℕ) → UploadFacts (p .page) (p .size) (s .upload) → length r ≤ p .longest
-    → wellFormed p (withLast (p .bus) s r) ≡ true
-withLast-formed p s r formed h =
-    facts-wellFormed p (withLast (p .bus) s r)
-    (record { upload = rw (withLast-upload (p .bus) s r) formed; reply = withLast-reply (p .bus) (p .longest) s r h })
+withReply-reply : (bus : Bus) (M : ℕ) (s : State) (r : List ℕ) → length r ≤ M → ReplyFacts bus M (withReply bus s r .last)
+withReply-reply I2c M s r h = record { last-most = h; last-none = λ e. cc }
+withReply-reply Rs485 M s r h = record { last-most = omega arith; last-none = λ e. refl }
+
+withReply-formed : (p : Profile) (s : State) (r : List ℕ) → UploadFacts (p .page) (p .size) (s .upload) → length r ≤ p .longest
+    → wellFormed p (withReply (p .bus) s r) ≡ true
+withReply-formed p s r formed h =
+    facts-wellFormed p (withReply (p .bus) s r)
+    (record { upload = rw (withReply-upload (p .bus) s r) formed; reply = withReply-reply (p .bus) (p .longest) s r h })
 
 replied-formed-call : (p : Profile) (d : List ℕ) (a : ℕ) (r : Response) (s : State) (e : List ℕ)
     → UploadFacts (p .page) (p .size) (s .upload)
     → length e ≡ length d → Fits p r → FormedCall p d (replied (p .bus) a r s e)
 replied-formed-call p d a (Reply status results) s e formed same fits =
     let most : length (reply (p .bus) a status results) ≤ p .longest = omega (arith, length-reply (p .bus) a status results) in
-    record { well-formed = withLast-formed p s (reply (p .bus) a status results) formed most; flash-length = same; reply-most = most }
+    record { well-formed = withReply-formed p s (reply (p .bus) a status results) formed most; flash-length = same; reply-most = most }
 replied-formed-call p d a NoReply s e formed same fits =
-    record { well-formed = withLast-formed p s [] formed (omega arith); flash-length = same; reply-most = omega arith }
+    record { well-formed = withReply-formed p s [] formed (omega arith); flash-length = same; reply-most = omega arith }
 
 finishedCall-formed-call : (p : Profile) (d : List ℕ) (a : ℕ) (act : Acted) → FormedResult p d act
     → FormedCall p d (finishedCall (p .bus) a act)

@@ -13,9 +13,9 @@ use Rattle.rules.specs.declared.kinds.Bus.the-variants.{I2c, Rs485}
 use Rattle.rules.specs.Profile.{Profile}
 use Rattle.rules.specs.State.{State, Upload}
 use Rattle.rules.specs.Frames.{reply, shortestReply, twoBytes, numberAt}
-use Rattle.rules.specs.Commands.{Response, Reply, NoReply, Acted, replying, setAddress, hardwareInfo, serialNumber, started, accepted}
-use Rattle.rules.specs.Commands.{restarted, written, finished, readable, shown, performed, executed, tabled, lengthAllowed, ok}
-use Rattle.rules.specs.Commands.{commandNotSupported, invalidArguments}
+use Rattle.rules.specs.Responses.{Response, Reply, NoReply, Acted, replying, ok, commandNotSupported, invalidArguments}
+use Rattle.rules.specs.Commands.{setAddress, hardwareInfo, serialNumber, started, accepted, restarted, written, finished, readable, shown}
+use Rattle.rules.specs.Commands.{performed, executed, tabled, lengthAllowed}
 use Rattle.laws.proofs.StateLaws.{ProfileFacts, UploadFacts}
 use Rattle.laws.proofs.CheckSumLaws.{length-sealed}
 use Rattle.laws.proofs.TestLaws.{by-test, &&-true}

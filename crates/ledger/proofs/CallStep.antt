@@ -14,7 +14,7 @@ use Rattle.rules.specs.Profile.{Profile, inRange}
 use Rattle.rules.specs.State.{State, wellFormed}
 use Rattle.rules.specs.Numbers.{refusal, flashShort, bufferShort}
 use Rattle.rules.specs.Frames.{destination, framing, verdict}
-use Rattle.rules.specs.Commands.{invalidTransfer, invalidCrc}
+use Rattle.rules.specs.Responses.{invalidTransfer, invalidCrc}
 use Rattle.rules.specs.Board.{nothing, addressReset, handled, received, readOut, readAnswered}
 use Rattle.laws.proofs.BoardLaws.{refusal-least}
 use Rattle.laws.proofs.StateLaws.{Unrefused, refusal-unrefused}

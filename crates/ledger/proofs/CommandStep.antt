@@ -11,8 +11,9 @@ use Rattle.rules.specs.declared.kinds.Address.the-variants.{Own}
 use Rattle.rules.specs.Profile.{Profile}
 use Rattle.rules.specs.State.{State}
 use Rattle.rules.specs.Frames.{twoBytes, numberAt, commandOf, argumentsOf}
-use Rattle.rules.specs.Commands.{Acted, replying, executed, setAddress, serialNumber, started, shown, lengthAllowed, tabled, addressTaken}
-use Rattle.rules.specs.Commands.{hardwareInfo, readable, commandNotSupported, invalidArguments, ok}
+use Rattle.rules.specs.Responses.{Acted, replying, commandNotSupported, invalidArguments, ok}
+use Rattle.rules.specs.Commands.{executed, setAddress, serialNumber, started, shown, lengthAllowed, tabled, addressTaken, hardwareInfo}
+use Rattle.rules.specs.Commands.{readable}
 use Rattle.rules.specs.Board.{finishedCall}
 use Rattle.laws.proofs.TestLaws.{by-test, &&-true}
 use Rattle.laws.proofs.CommandLaws.{executed-cases}

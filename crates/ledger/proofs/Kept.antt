@@ -12,10 +12,10 @@ use Rattle.rules.specs.declared.kinds.Bus.{Bus}
 use Rattle.rules.specs.declared.kinds.Bus.the-variants.{I2c, Rs485}
 use Rattle.rules.specs.declared.kinds.Address.{Address}
 use Rattle.rules.specs.Profile.{Profile}
-use Rattle.rules.specs.State.{State, fresh}
+use Rattle.rules.specs.State.{State, fresh, withAddress, withLast}
 use Rattle.rules.specs.Frames.{commandOf}
-use Rattle.rules.specs.Commands.{Reply, NoReply}
-use Rattle.rules.specs.Board.{Called, nothing, withLast, replied, refused}
+use Rattle.rules.specs.Responses.{Reply, NoReply}
+use Rattle.rules.specs.Board.{Called, nothing, withReply, replied, refused}
 use Rattle.ledger.specs.Ledger.{Ledger, opened, entered, resetForm, isFinalize, replyCount}
 use Rattle.ledger.proofs.LedgerLaws.{rest}
 use Rattle.ledger.proofs.Consistency.{Consistent, opened-consistent, AfterFinalize}
@@ -35,12 +35,12 @@ fresh-keeps p d e same =
 
 -- own address and last reply do not matter
 pub keeps-other : (p : Profile) (s : State) (d : List ℕ) (k : Ledger) (own : Address) (last : List ℕ) → Keeps p s d k
-    → Keeps p (record { address = own; running = s .running; upload = s .upload; last = last }) d k
+    → Keeps p (withLast (withAddress s own) last) d k
 keeps-other p s d k own last i =
     record { balanced = i .balanced; flash-is = i .flash-is; count-is = i .count-is; next-is = i .next-is; waiting-is = i .waiting-is }
 
 pub keeps-last : (bus : Bus) (p : Profile) (s : State) (d : List ℕ) (k : Ledger) (r : List ℕ) → Keeps p s d k
-    → Keeps p (withLast bus s r) d k
+    → Keeps p (withReply bus s r) d k
 keeps-last I2c p s d k r i = keeps-other p s d k (s .address) r i
 keeps-last Rs485 p s d k r i = keeps-other p s d k (s .address) [] i
 
@@ -100,4 +100,4 @@ module _ (p : Profile) (k : Ledger) (a : ℕ) (f : List ℕ) where
 
   pub no-reply-no-entry : (address : ℕ) (s : State) (d : List ℕ) → resetForm (p .bus) a f ≡ false
       → Keeps p s d k → Entered p k a f (replied (p .bus) address NoReply s d)
-  no-reply-no-entry address s d e i = nothing-no-entry (withLast (p .bus) s []) d e (keeps-last (p .bus) p s d k [] i)
+  no-reply-no-entry address s d e i = nothing-no-entry (withReply (p .bus) s []) d e (keeps-last (p .bus) p s d k [] i)

@@ -9,11 +9,12 @@ use lib.Dec.{eqb, leb}
 use lib.ListN.{length, drop}
 use borrow.Author.Tests.{eqb-true, leb-true}
 use Rattle.rules.specs.Profile.{Profile}
-use Rattle.rules.specs.State.{State, freshUpload}
+use Rattle.rules.specs.State.{State, freshUpload, withUpload}
 use Rattle.rules.specs.Frames.{reply, twoBytes, numberAt, commandOf, argumentsOf}
 use Rattle.rules.specs.Commit.{Progress, takenAll, finalized}
-use Rattle.rules.specs.Commands.{Reply, withUpload, accepted, restarted, written, finished, invalidArguments, ok}
-use Rattle.rules.specs.Board.{withLast, replied, finishedCall}
+use Rattle.rules.specs.Responses.{Reply, invalidArguments, ok}
+use Rattle.rules.specs.Commands.{accepted, restarted, written, finished}
+use Rattle.rules.specs.Board.{withReply, replied, finishedCall}
 use Rattle.laws.proofs.StateLaws.{Unrefused}
 use Rattle.laws.proofs.TestLaws.{by-test, &&-true}
 use Rattle.ledger.specs.Ledger.{Ledger, opened, writes, joinsAll, finalizes, entered, writeAddress, writeData}
@@ -59,7 +60,7 @@ serving-keeps p s d k h = agrees-keeps p s (record { upload = s .upload; flash =
 
 -- an upload that agrees with the ledger after a reply, in a state that has the reply for its last
 agrees-replied : (p : Profile) (s : State) (g : Progress) (k k′ : Ledger) (r : List ℕ) → Agrees g k′ → Consistent p k′ → k ≡ k′
-    → Keeps p (withLast (p .bus) (withUpload s (g .upload)) r) (g .flash) k
+    → Keeps p (withReply (p .bus) (withUpload s (g .upload)) r) (g .flash) k
 agrees-replied p s g k k′ r a b e = rw e (keeps-last (p .bus) p (withUpload s (g .upload)) (g .flash) k′ r (agrees-keeps p s g k′ a b))
 
 -- finalize

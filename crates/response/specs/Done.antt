@@ -5,8 +5,8 @@ use mathlib.Core.Path.{_≡_}
 use lib.ListN.{length}
 use Rattle.rules.specs.Bytes.{overlay}
 use Rattle.rules.specs.State as rules
-use Rattle.rules.specs.Commands as commands
-use Rattle.rules.specs.Commands.{Acted, Reply, NoReply}
+use Rattle.rules.specs.Responses as responses
+use Rattle.rules.specs.Responses.{Acted, Reply, NoReply}
 use Rattle.rules.specs.Frames.{headerLength}
 use Rattle.laws.proofs.StateLaws as laws
 use Rattle.state.specs.declared.State.{State}
@@ -28,11 +28,11 @@ abbrev pub commandEffect : Done → List ℕ → List ℕ → CommandEffect
 commandEffect r d out = record { response = r .response; state = view (r .state); flash = d; out = out }
 
 -- a response with its results counted, and laid over the buffer
-abbrev pub counted : commands.Response → Response
+abbrev pub counted : responses.Response → Response
 counted (Reply status results) = response.Reply status (length results)
 counted NoReply = response.NoReply
 
-abbrev pub resultsIn : commands.Response → List ℕ → ℕ → List ℕ
+abbrev pub resultsIn : responses.Response → List ℕ → ℕ → List ℕ
 resultsIn (Reply status results) out at = overlay out at results
 resultsIn NoReply out at = out
 

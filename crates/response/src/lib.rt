@@ -5,7 +5,7 @@ ghost use mathlib.Core.List.{List};
 ghost use Prim.Native.Nat.{ℕ, _+_, _≤_};
 ghost use lib.ListN.{length};
 ghost use Rattle.rules.specs.Frames.{twoBytes};
-ghost use Rattle.rules.specs.Commands.{replying, ok};
+ghost use Rattle.rules.specs.Responses.{replying, ok};
 ghost use Rattle.state.specs.View.{view};
 ghost use Rattle.response.specs.Done.{commandEffect, ruledCommand};
 

@@ -9,19 +9,20 @@ use native.Mathlib.Omega.{arith}
 use lib.ListN.{length, getD}
 use Rattle.rules.specs.declared.kinds.Bus.{Bus}
 use Rattle.rules.specs.declared.kinds.Bus.the-variants.{I2c, Rs485}
-use Rattle.rules.specs.State.{Upload}
+use Rattle.rules.specs.State.{Upload, withUpload}
 use Rattle.rules.specs.Frames.{addressed, reply}
-use Rattle.rules.specs.Commands.{Reply, Acted, withUpload, performed, ok}
-use Rattle.rules.specs.Board.{withLast}
+use Rattle.rules.specs.Responses.{Reply, Acted, ok}
+use Rattle.rules.specs.Commands.{performed}
+use Rattle.rules.specs.Board.{withReply}
 use Rattle.laws.proofs.StateLaws.{Unrefused, refusal-unrefused, unrefused-refusal}
-use Rattle.laws.proofs.BoardLaws.{FormedCall, received-formed-call, withLast-upload}
+use Rattle.laws.proofs.BoardLaws.{FormedCall, received-formed-call, withReply-upload}
 use Rattle.roundtrip.specs.Sending.{Sending, Instruction, Commands, Given, Beside, AddressedBy, target, bus, encoding, frame, call}
 use Rattle.roundtrip.specs.Sending.{instruction}
 use Rattle.roundtrip.specs.Understood.{TakenAs, Understood}
 use Rattle.roundtrip.specs.ReadBack.{Answered, ResponseRead, Replied}
 use Rattle.roundtrip.specs.Exchanges.{Line, Board, Ready, Message, sending, fetched, answer, after, codeSent, lengthSent, results, Ok}
 use Rattle.roundtrip.proofs.Requests.{given-understood}
-use Rattle.roundtrip.proofs.Replies.{withLast-running, withLast-address, replies-read}
+use Rattle.roundtrip.proofs.Replies.{withReply-running, withReply-address, replies-read}
 
 pub beside-self : (b : Bus) (a : ℕ) → Beside b a a
 beside-self I2c a = refl
@@ -59,11 +60,11 @@ module _ (l : Line) (b : Board) (ready : Ready l b) (m : Message) where
     abbrev sent : List ℕ
     sent = reply (bus x) (l .to) ok said
 
-    called : call x ≡ record { number = 0; reply = sent; state = withLast (bus x) (withUpload (b .state) u) sent; flash = d }
+    called : call x ≡ record { number = 0; reply = sent; state = withReply (bus x) (withUpload (b .state) u) sent; flash = d }
     called = taken .call-is ∙ rw acts
 
     addressed-next : addressed (bus x) (call x .state .address) (l .to) ≡ true
-    addressed-next = rw (called, withLast-address (bus x) (withUpload (b .state) u) sent) (ready .heard)
+    addressed-next = rw (called, withReply-address (bus x) (withUpload (b .state) u) sent) (ready .heard)
 
     fetched-call : (k : Bus) → bus x ≡ k → fetched k x ≡ call x
     fetched-call I2c i =
@@ -80,7 +81,7 @@ module _ (l : Line) (b : Board) (ready : Ready l b) (m : Message) where
           rw answer-call
           (unrefused-refusal (l .profile) (call x .state) (length (call x .flash)) (l .buffer) (unrefused .in-range) (orderly .well-formed)
           (omega (arith, unrefused .flash-holds, orderly .flash-length)) (unrefused .buffer-holds));
-      stopped = rw (answer-call, called, withLast-running (bus x) (withUpload (b .state) u) sent) (ready .stopped);
+      stopped = rw (answer-call, called, withReply-running (bus x) (withUpload (b .state) u) sent) (ready .stopped);
       heard = rw answer-call addressed-next;
       byte = ready .byte;
     }
@@ -95,7 +96,7 @@ module _ (l : Line) (b : Board) (ready : Ready l b) (m : Message) where
                 rw (answer-call, answered .reads .decoding-is);
           };
       results-are = rw answer-call (answered .reads .results-are);
-      upload-is = rw (answer-call, called) (withLast-upload (bus x) (withUpload (b .state) u) sent);
+      upload-is = rw (answer-call, called) (withReply-upload (bus x) (withUpload (b .state) u) sent);
       flash-is = rw (answer-call, called);
       ready = left-ready;
     }

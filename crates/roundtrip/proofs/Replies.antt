@@ -16,13 +16,14 @@ use Rattle.rules.specs.Profile.{Profile}
 use Rattle.rules.specs.State.{State}
 use Rattle.rules.specs.Numbers.{refusal}
 use Rattle.rules.specs.Frames.{shortestReply, reply, addressed}
-use Rattle.rules.specs.Commands.{Response, Reply, NoReply, Acted, addressTaken, setAddress, performed, served}
-use Rattle.rules.specs.Board.{Called, withLast, readAnswered, readOut}
+use Rattle.rules.specs.Responses.{Response, Reply, NoReply, Acted}
+use Rattle.rules.specs.Commands.{addressTaken, setAddress, performed, served}
+use Rattle.rules.specs.Board.{Called, withReply, readAnswered, readOut}
 use Rattle.rules.specs.Master.{resultsMissing, decodedRead, resultsIn, resultBytes, whichRead, addressOver}
 use Rattle.laws.proofs.TestLaws.{by-test}
 use Rattle.laws.proofs.StateLaws.{Unrefused, refusal-unrefused, unrefused-refusal}
 use Rattle.laws.proofs.CommandLaws.{length-reply}
-use Rattle.laws.proofs.BoardLaws.{FormedCall, received-formed-call}
+use Rattle.laws.proofs.BoardLaws.{FormedCall, received-formed-call, withReply-kept}
 use Rattle.laws.proofs.FrameLaws.{Ends, decoded-reply, results-reply}
 use Rattle.roundtrip.specs.Sending.{Sending, Instruction, Commands, AddressReset, BoardReset, Given, AddressedBy, bus, frame, call}
 use Rattle.roundtrip.specs.Sending.{instruction}
@@ -66,17 +67,15 @@ reply-anywhere a b status results = refl
 
 -- the state with another last reply
 
-withLast-last : (b : Bus) (s : State) (r : List ℕ) → b ≡ I2c → withLast b s r .last ≡ r
-withLast-last I2c s r e = refl
-withLast-last Rs485 s r e = cc
+withReply-last : (b : Bus) (s : State) (r : List ℕ) → b ≡ I2c → withReply b s r .last ≡ r
+withReply-last I2c s r e = refl
+withReply-last Rs485 s r e = cc
 
-pub withLast-running : (b : Bus) (s : State) (r : List ℕ) → withLast b s r .running ≡ s .running
-withLast-running I2c s r = refl
-withLast-running Rs485 s r = refl
+pub withReply-running : (b : Bus) (s : State) (r : List ℕ) → withReply b s r .running ≡ s .running
+withReply-running = withReply-kept (λ (s : State). s .running) (λ s l. refl)
 
-pub withLast-address : (b : Bus) (s : State) (r : List ℕ) → withLast b s r .address ≡ s .address
-withLast-address I2c s r = refl
-withLast-address Rs485 s r = refl
+pub withReply-address : (b : Bus) (s : State) (r : List ℕ) → withReply b s r .address ≡ s .address
+withReply-address = withReply-kept (λ (s : State). s .address) (λ s l. refl)
 
 -- a call that replied on I²C is what a read at its address afterwards gives
 read-again : (p : Profile) (c : Called) (address buffer : ℕ) → p .bus ≡ I2c → refusal p (c .state) (length (c .flash)) buffer ≡ 0
@@ -125,7 +124,7 @@ module _ (x : Sending) (given : Given x) (code : ℕ) (arguments : List ℕ) (ta
     abbrev made : List ℕ
     made = reply (bus x) (x .to) status results
 
-    called : call x ≡ record { number = 0; reply = made; state = withLast (bus x) (act .state) made; flash = act .flash }
+    called : call x ≡ record { number = 0; reply = made; state = withReply (bus x) (act .state) made; flash = act .flash }
     called = taken .call-is ∙ rw said
 
     reply-is : call x .reply ≡ made
@@ -140,13 +139,13 @@ module _ (x : Sending) (given : Given x) (code : ℕ) (arguments : List ℕ) (ta
           rw reply-is (rw append-nil at more)
 
       left-running : call x .state .running ≡ false
-      left-running = rw called (withLast-running (bus x) (act .state) made) ∙ responding .still-stopped ∙ stopped
+      left-running = rw called (withReply-running (bus x) (act .state) made) ∙ responding .still-stopped ∙ stopped
 
       left-last : bus x ≡ I2c → call x .state .last ≡ call x .reply
-      left-last i = rw called (withLast-last (bus x) (act .state) made i)
+      left-last i = rw called (withReply-last (bus x) (act .state) made i)
 
       left-address : call x .state .address ≡ act .state .address
-      left-address = rw called (withLast-address (bus x) (act .state) made)
+      left-address = rw called (withReply-address (bus x) (act .state) made)
 
       some : length (call x .reply) ≡ 0 → ⊥
       some e = omega (arith, ap length reply-is, length-reply (bus x) (x .to) status results, shortest (bus x))

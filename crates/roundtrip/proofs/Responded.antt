@@ -13,8 +13,8 @@ use borrow.Author.Tests.{leb-true, le-ltb}
 use Rattle.rules.specs.Profile.{Profile}
 use Rattle.rules.specs.State.{State}
 use Rattle.rules.specs.Frames.{shortestReply, twoBytes, numberAt}
-use Rattle.rules.specs.Commands.{Response, Reply, NoReply, Acted, replying, setAddress, hardwareInfo, serialNumber, accepted, written}
-use Rattle.rules.specs.Commands.{finished, readable, shown, executed, ok, commandNotSupported, invalidArguments}
+use Rattle.rules.specs.Responses.{Response, Reply, NoReply, Acted, replying, ok, commandNotSupported, invalidArguments}
+use Rattle.rules.specs.Commands.{setAddress, hardwareInfo, serialNumber, accepted, written, finished, readable, shown, executed}
 use Rattle.rules.specs.Master.{fixedPart, resultsMissing}
 use Rattle.laws.proofs.TestLaws.{by-test, &&-true}
 use Rattle.laws.proofs.CommandLaws.{executed-cases}

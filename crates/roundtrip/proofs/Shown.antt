@@ -13,7 +13,8 @@ use Rattle.rules.specs.Profile.{Profile}
 use Rattle.rules.specs.State.{State}
 use Rattle.rules.specs.Bytes.{overlay}
 use Rattle.rules.specs.Frames.{shortestReply, twoBytes, numberAt}
-use Rattle.rules.specs.Commands.{replying, shown, performed, ok}
+use Rattle.rules.specs.Responses.{replying, ok}
+use Rattle.rules.specs.Commands.{shown, performed}
 use Rattle.laws.proofs.StateLaws.{ProfileFacts, refusal-unrefused}
 use Rattle.laws.proofs.ImageLaws.{part-overlay}
 use Rattle.roundtrip.specs.Sending.{Sending}

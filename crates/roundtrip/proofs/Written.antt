@@ -12,10 +12,11 @@ use lib.Seq.{length-take-le}
 use borrow.Author.Tests.{eq-eqb, ne-eqb, le-leb}
 use Rattle.rules.specs.declared.requests.Request.the-variants.{Write}
 use Rattle.rules.specs.Profile.{Profile}
-use Rattle.rules.specs.State.{State}
+use Rattle.rules.specs.State.{State, withUpload}
 use Rattle.rules.specs.Commit.{Progress, takenAll}
 use Rattle.rules.specs.Frames.{twoBytes, numberAt}
-use Rattle.rules.specs.Commands.{Reply, withUpload, restarted, written, performed, ok}
+use Rattle.rules.specs.Responses.{Reply, ok}
+use Rattle.rules.specs.Commands.{restarted, written, performed}
 use Rattle.laws.proofs.CommitLaws.{takenAll-append}
 use Rattle.laws.proofs.TestLaws.{by-test}
 use Rattle.laws.proofs.UploadLaws.{next-takenAll}

@@ -12,7 +12,7 @@ use Rattle.rules.specs.Profile.{Profile}
 use Rattle.rules.specs.State.{State}
 use Rattle.rules.specs.Numbers.{refusal}
 use Rattle.rules.specs.Frames.{addressed}
-use Rattle.rules.specs.Commands.{ok}
+use Rattle.rules.specs.Responses.{ok}
 use Rattle.rules.specs.Board.{Called, readOut}
 use Rattle.rules.specs.Master.{Decoding, decoded, resultsIn}
 use Rattle.roundtrip.specs.Sending.{Sending, bus, encoding, call}

@@ -8,7 +8,8 @@ use lib.ListN.{length, getD}
 use Rattle.rules.specs.declared.kinds.Bus.{Bus}
 use Rattle.rules.specs.declared.kinds.Bus.the-variants.{I2c}
 use Rattle.rules.specs.Frames.{headerLength, addressed}
-use Rattle.rules.specs.Commands.{Response, Reply, NoReply, performed}
+use Rattle.rules.specs.Responses.{Response, Reply, NoReply}
+use Rattle.rules.specs.Commands.{performed}
 use Rattle.rules.specs.Board.{readOut}
 use Rattle.rules.specs.Master.{decoded, decodedRead, resultsIn, resultBytes, whichRead}
 use Rattle.roundtrip.specs.Sending.{Sending, Instruction, Commands, AddressReset, BoardReset, Given, bus, call, instruction}

@@ -11,10 +11,11 @@ use Rattle.rules.specs.declared.kinds.Verdict.{Verdict}
 use Rattle.rules.specs.declared.kinds.Verdict.the-variants.{Reset, Running, ResetAddress, Short, Long, WrongSum, Foreign}
 use Rattle.rules.specs.declared.kinds.Verdict.the-variants.{OtherGeneral, BadTransfer, BadSum, Command}
 use Rattle.rules.specs.Profile.{Profile}
-use Rattle.rules.specs.State.{State, fresh}
+use Rattle.rules.specs.State.{State, fresh, withAddress, withLast}
 use Rattle.rules.specs.Numbers.{refusal}
 use Rattle.rules.specs.Frames.{reply, destination, addressed, verdict, commandOf, argumentsOf}
-use Rattle.rules.specs.Commands.{Response, Reply, NoReply, Acted, replying, executed, invalidTransfer, invalidCrc}
+use Rattle.rules.specs.Responses.{Response, Reply, NoReply, Acted, replying, invalidTransfer, invalidCrc}
+use Rattle.rules.specs.Commands.{executed}
 
 -- what a board call answers and leaves: its number, the reply's bytes (none unless the number is 0), the state and the flash
 pub record Called : Type 0 where
@@ -27,16 +28,16 @@ pub record Called : Type 0 where
 abbrev pub nothing : State → List ℕ → Called
 nothing s d = record { number = 1; reply = []; state = s; flash = d }
 
--- the state with another last reply: only I²C keeps one
-abbrev pub withLast : Bus → State → List ℕ → State
-withLast I2c s r = record { address = s .address; running = s .running; upload = s .upload; last = r }
-withLast Rs485 s r = record { address = s .address; running = s .running; upload = s .upload; last = [] }
+-- the state after a reply: only I²C keeps it
+abbrev pub withReply : Bus → State → List ℕ → State
+withReply I2c s r = withLast s r
+withReply Rs485 s r = withLast s []
 
 -- after a write to this board its reply is the last reply; after one without reply there is none
 abbrev pub replied : Bus → ℕ → Response → State → List ℕ → Called
 replied bus address (Reply status results) s d =
-    record { number = 0; reply = reply bus address status results; state = withLast bus s (reply bus address status results); flash = d }
-replied bus address NoReply s d = nothing (withLast bus s []) d
+    record { number = 0; reply = reply bus address status results; state = withReply bus s (reply bus address status results); flash = d }
+replied bus address NoReply s d = nothing (withReply bus s []) d
 
 -- what a command did, as an answer to its sender
 abbrev pub finishedCall : Bus → ℕ → Acted → Called
@@ -44,7 +45,7 @@ finishedCall bus address a = replied bus address (a .response) (a .state) (a .fl
 
 -- default range again, last reply none, upload kept
 abbrev pub addressReset : State → State
-addressReset s = record { address = DefaultRange; running = s .running; upload = s .upload; last = [] }
+addressReset s = withLast (withAddress s DefaultRange) []
 
 -- a frame by its verdict
 unfoldable pub handled : Profile → State → ℕ → List ℕ → List ℕ → Verdict → Called

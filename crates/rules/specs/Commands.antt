@@ -8,7 +8,8 @@ use Rattle.rules.specs.declared.kinds.Bus.{Bus}
 use Rattle.rules.specs.declared.kinds.Bus.the-variants.{I2c, Rs485}
 use Rattle.rules.specs.declared.kinds.Address.the-variants.{Own}
 use Rattle.rules.specs.Profile.{Profile}
-use Rattle.rules.specs.State.{State, Upload, freshUpload}
+use Rattle.rules.specs.State.{State, Upload, freshUpload, withAddress, withRunning, withUpload}
+use Rattle.rules.specs.Responses.{Reply, NoReply, Acted, replying, ok, commandNotSupported, invalidArguments}
 use Rattle.rules.specs.Frames.{twoBytes, numberAt, shortestReply}
 use Rattle.rules.specs.Commit.{Progress, takenAll, finalized}
 
@@ -44,40 +45,6 @@ served code = eqb (tabled code 0) 1
 abbrev pub lengthAllowed : ℕ → ℕ → Bool
 lengthAllowed code n = leb (tabled code 1) n && leb n (tabled code 2)
 
--- the status codes of a reply
-abbrev pub ok : ℕ
-ok = 0
-
-abbrev pub commandNotSupported : ℕ
-commandNotSupported = 2
-
-abbrev pub invalidTransfer : ℕ
-invalidTransfer = 3
-
-abbrev pub invalidCrc : ℕ
-invalidCrc = 4
-
-abbrev pub invalidArguments : ℕ
-invalidArguments = 5
-
--- the response of a command: a status with its results, or nothing
-pub data Response : Type 0 where
-  Reply : ℕ → List ℕ → Response
-  NoReply : Response
-
-pub record Acted : Type 0 where
-  pub response : Response
-  pub state : State
-  pub flash : List ℕ
-
--- a reply that changes nothing
-abbrev pub replying : State → List ℕ → ℕ → List ℕ → Acted
-replying s d status results = record { response = Reply status results; state = s; flash = d }
-
--- the state with another upload
-abbrev pub withUpload : State → Upload → State
-withUpload s u = record { address = s .address; running = s .running; upload = u; last = s .last }
-
 -- the address that set address takes: on I²C with its top bit dropped
 abbrev pub addressTaken : Bus → ℕ → ℕ
 addressTaken I2c a = a % 128
@@ -89,7 +56,7 @@ setAddress p s args d =
     cond (eqb (getD args 1 0) (p .hardware) || eqb (getD args 1 0) 0)
     (record {
       response = Reply ok [];
-      state = record { address = Own (addressTaken (p .bus) (getD args 0 0)); running = s .running; upload = s .upload; last = s .last };
+      state = withAddress s (Own (addressTaken (p .bus) (getD args 0 0)));
       flash = d;
     })
     (record { response = NoReply; state = s; flash = d })
@@ -106,12 +73,7 @@ serialNumber p s d = cond (eqb (length (p .serial)) 0) (replying s d commandNotS
 abbrev pub started : State → List ℕ → Acted
 started s d = record {
   response = NoReply;
-  state = record {
-    address = s .address;
-    running = true;
-    upload = record { next = s .upload .next; waiting = []; count = s .upload .count };
-    last = s .last;
-  };
+  state = withRunning (withUpload s (record { next = s .upload .next; waiting = []; count = s .upload .count })) true;
   flash = d;
 }
 

@@ -6,6 +6,7 @@ pub mod Commit
 pub mod CheckSums
 pub mod Numbers
 pub mod Frames
+pub mod Responses
 pub mod Commands
 pub mod Board
 pub mod Examples

@@ -21,7 +21,8 @@ use Rattle.rules.specs.declared.requests.Version.the-variants.{Known, Un
 use Rattle.rules.specs.Profile.{frameInRange}
 use Rattle.rules.specs.CheckSums.{sumRight}
 use Rattle.rules.specs.Frames.{headerLength, shortestRequest, shortestReply, twoBytes, request, resetAddressFrame, resetFrame}
-use Rattle.rules.specs.Commands.{served, lengthAllowed, ok}
+use Rattle.rules.specs.Responses.{ok}
+use Rattle.rules.specs.Commands.{served, lengthAllowed}
 
 -- the encoder
 

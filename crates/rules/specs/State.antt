@@ -33,6 +33,19 @@ freshUpload = record { next = 0; waiting = []; count = 0 }
 abbrev pub fresh : State
 fresh = record { address = DefaultRange; running = false; upload = freshUpload; last = [] }
 
+-- the state with one field changed, the others kept
+abbrev pub withAddress : State → Address → State
+withAddress s a = record { address = a; running = s .running; upload = s .upload; last = s .last }
+
+abbrev pub withRunning : State → Bool → State
+withRunning s r = record { address = s .address; running = r; upload = s .upload; last = s .last }
+
+abbrev pub withUpload : State → Upload → State
+withUpload s u = record { address = s .address; running = s .running; upload = u; last = s .last }
+
+abbrev pub withLast : State → List ℕ → State
+withLast s l = record { address = s .address; running = s .running; upload = s .upload; last = l }
+
 -- the n bytes in use of a buffer; a length past its end, which only a malformed state has, is filled up with zeros
 unfoldable pub used : ℕ → List ℕ → List ℕ
 used n buffer = take n (buffer ++ replicate n 0)

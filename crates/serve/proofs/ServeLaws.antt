@@ -7,7 +7,8 @@ use lib.ListN.{length, take, drop}
 use lib.Seq.{take-add, drop-at, length-take-le}
 use Rattle.rules.specs.Profile.{Profile}
 use Rattle.rules.specs.State as rules
-use Rattle.rules.specs.Commands.{Response, Reply, NoReply, executed}
+use Rattle.rules.specs.Responses.{Response, Reply, NoReply}
+use Rattle.rules.specs.Commands.{executed}
 use Rattle.laws.proofs.CommandLaws as laws
 use Rattle.laws.proofs.StateLaws.{Unrefused}
 use Rattle.response.specs.declared.Response as response

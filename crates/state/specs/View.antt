@@ -5,7 +5,6 @@ use mathlib.Core.Bool.{false}
 use mathlib.Core.List.{List}
 use Prim.Native.Nat.{ℕ}
 use lib.ListN.{replicate}
-use Rattle.rules.specs.declared.kinds.Address.{Address}
 use Rattle.rules.specs.declared.kinds.Address.the-variants.{DefaultRange}
 use Rattle.rules.specs.State as rules
 use Rattle.rules.specs.State.{used}
@@ -42,7 +41,3 @@ zeroed = record {
 pub record Fresh (s : State) : Type 0 where
   pub viewed : view s ≡ rules.fresh
   pub all : s ≡ zeroed
-
--- the state with another address
-abbrev pub withAddress : rules.State → Address → rules.State
-withAddress s a = record { address = a; running = s .running; upload = s .upload; last = s .last }

@@ -7,10 +7,10 @@ ghost use mathlib.Core.List.{[]};
 ghost use Prim.Native.Nat.{_≤_};
 ghost use lib.ListN.{length};
 ghost use Rattle.rules.specs.declared.kinds.Bus.{Bus};
-ghost use Rattle.rules.specs.State.{freshUpload};
-ghost use Rattle.rules.specs.Commands.{withUpload, started};
-ghost use Rattle.rules.specs.Board.{withLast, addressReset};
-ghost use Rattle.state.specs.View.{largestFrame, uploadOf, lastOf, view, Fresh, withAddress};
+ghost use Rattle.rules.specs.State.{freshUpload, withAddress, withUpload};
+ghost use Rattle.rules.specs.Commands.{started};
+ghost use Rattle.rules.specs.Board.{withReply, addressReset};
+ghost use Rattle.state.specs.View.{largestFrame, uploadOf, lastOf, view, Fresh};
 
 // The upload: next address, waiting bytes w (the first `held` of the buffer) and erase count.
 pub struct Upload {
@@ -124,7 +124,7 @@ impl State {
     // A reply is the last one: only I²C keeps it.
     pub fn with_reply(mut self, bus: Bus, reply: &[u8]) -> Self
         requires { ⌜ length (now reply) ≤ largestFrame ⌝ }
-        ensures { λ r. ⌜ view r ≡ withLast bus (view self) (now (reply .entry)) ⌝ }
+        ensures { λ r. ⌜ view r ≡ withReply bus (view self) (now (reply .entry)) ⌝ }
     {
         match bus {
             Bus::I2c => {
@@ -138,7 +138,7 @@ impl State {
 
     // No reply is the last one, on either bus.
     pub fn without_reply(mut self) -> Self
-        ensures { λ r. ⌜ ((bus : Bus) → view r ≡ withLast bus (view self) []) ⌝ }
+        ensures { λ r. ⌜ ((bus : Bus) → view r ≡ withReply bus (view self) []) ⌝ }
     {
         self.last.len = 0;
         self

@@ -14,7 +14,8 @@ use Rattle.rules.specs.State.{State}
 use Rattle.rules.specs.Numbers.{refusal}
 use Rattle.rules.specs.Frames.{destination, verdict, commandOf, argumentsOf}
 use Rattle.rules.specs.Commit.{Progress, committed, taken, takenAll, finalized}
-use Rattle.rules.specs.Commands.{Acted, tabled, lengthAllowed, written, finished, performed, executed}
+use Rattle.rules.specs.Responses.{Acted}
+use Rattle.rules.specs.Commands.{tabled, lengthAllowed, written, finished, performed, executed}
 use Rattle.rules.specs.Board.{Called, finishedCall, handled, received, refused}
 use Rattle.ledger.specs.Calls.{Call, Frame, Read, reaction, calls}
 use Rattle.demands.specs.Past.{isCommand}

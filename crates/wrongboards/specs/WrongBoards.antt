@@ -9,17 +9,14 @@ use Rattle.rules.specs.declared.kinds.Verdict.{Verdict}
 use Rattle.rules.specs.declared.kinds.Verdict.the-variants.{Reset, Running, ResetAddress, Short, Long, WrongSum, Foreign, OtherGeneral}
 use Rattle.rules.specs.declared.kinds.Verdict.the-variants.{BadTransfer, BadSum, Command}
 use Rattle.rules.specs.Profile.{Profile}
-use Rattle.rules.specs.State.{State, Upload}
+use Rattle.rules.specs.State.{State, Upload, withRunning, withUpload}
 use Rattle.rules.specs.Frames.{destination, numberAt, twoBytes}
 use Rattle.rules.specs.Commit.{Progress, committed, finalized}
-use Rattle.rules.specs.Commands.{Reply, Acted, ok, invalidArguments, invalidCrc, replying, withUpload, started, executed}
+use Rattle.rules.specs.Responses.{Reply, Acted, ok, invalidArguments, invalidCrc, replying}
+use Rattle.rules.specs.Commands.{started, executed}
 use Rattle.rules.specs.Board.{finishedCall, handled}
 use Rattle.ledger.specs.Calls.{Call, Reaction, Board, calls}
 use Rattle.wrongboards.specs.Variations.{Handling, Rule, Commit, handlingBy, boardBy, ruledBy, committedBy}
-
--- the state, running or not
-abbrev pub withRunning : State → Bool → State
-withRunning s running = record { address = s .address; running = running; upload = s .upload; last = s .last }
 
 -- Document 01, "Programs to try"
 

@@ -2,7 +2,7 @@
 use Rattle.laws.proofs.CommandLaws.{shortestReply-le}
 use Rattle.state.specs.View.{view}
 use Rattle.laws.proofs.BytesLaws.{overlay-none}
-use Rattle.rules.specs.Commands.{replying}
+use Rattle.rules.specs.Responses.{replying}
 use Prim.Native.Nat.{_+_}
 use Rattle.rules.specs.Frames.{headerLength}
 use mathlib.Core.List.{[]}

@@ -6,7 +6,7 @@ use native.Mathlib.Omega.{arith}
 use lib.ListN.{getD}
 use Rattle.rules.specs.declared.kinds.Bus.the-variants.{I2c}
 use Rattle.rules.specs.Frames.{reply}
-use Rattle.rules.specs.Commands.{ok}
+use Rattle.rules.specs.Responses.{ok}
 use Rattle.demands.specs.Acceptance.{Demand2}
 use Rattle.wrongboards.specs.WrongBoards.{fixedReply}
 use Rattle.wrongboards.proofs.Computing.{computing}

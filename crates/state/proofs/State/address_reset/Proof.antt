@@ -4,7 +4,7 @@ use borrow.Author.Needs.{needs}
 use Rattle.rules.specs.declared.kinds.Bus.the-variants.{I2c}
 use Rattle.rules.specs.declared.kinds.Address.the-variants.{DefaultRange}
 use Rattle.rules.specs.State.{State}
-use Rattle.state.specs.View.{withAddress}
+use Rattle.rules.specs.State.{withAddress}
 use Rattle.state.proofs.State.address_reset.Statement.{statement}
 use Rattle.state.proofs.State.address_reset.Tie as tie
 
