@@ -8,9 +8,9 @@ use Rattle.rules.specs.declared.kinds.Verdict.{Verdict}
 use Rattle.rules.specs.Profile.{Profile}
 use Rattle.rules.specs.State.{State, Upload}
 use Rattle.rules.specs.Numbers.{refusal}
+use Rattle.rules.specs.Frames.{ignored}
 use Rattle.rules.specs.Commands.{finished}
 use Rattle.rules.specs.Board.{nothing, handled}
-use Rattle.alarms.specs.Alarms.{ignored}
 use Rattle.lost_bytes.specs.Lost.{lostBytes}
 
 -- the same upload before and after, over any flash

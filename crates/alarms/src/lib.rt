@@ -5,23 +5,18 @@ use rules::kinds::Bus;
 use rules::kinds::Verdict;
 use state::Upload;
 ghost use mathlib.Core.Path.{_≡_};
+ghost use Rattle.rules.specs.Frames as frames;
 ghost use Rattle.ledger.specs.Ledger.{offsets};
 ghost use Rattle.alarms.specs.Alarms.{erasedNothing};
-ghost use Rattle.alarms.specs.Alarms as alarms;
 
 // Silence that means no dead board: the frame changes nothing and gets no reply.
 pub fn ignored(v: Verdict) -> bool
-    ensures { λ r. ⌜ r ≡ alarms.ignored v ⌝ }
+    ensures { λ r. ⌜ r ≡ frames.ignored v ⌝ }
 {
     match v {
         Verdict::Reset => false,
-        Verdict::Running => true,
         Verdict::ResetAddress => false,
-        Verdict::Short => true,
-        Verdict::Long => true,
-        Verdict::WrongSum => true,
-        Verdict::Foreign => true,
-        Verdict::OtherGeneral => true,
+        Verdict::Ignored(_) => true,
         Verdict::BadTransfer => false,
         Verdict::BadSum => false,
         Verdict::Command => false,

@@ -1,19 +1,26 @@
 -- What the two board calls promise: an equation with the rules for the answer, the state, every flash byte and every byte of the lent
 -- buffer.
 use mathlib.Core.Path.{_≡_}
+use mathlib.Core.Bool.{true}
 use mathlib.Core.List.{List}
 use Prim.Native.Nat.{ℕ, _+_, _≤_}
 use lib.ListN.{length}
 use Rattle.rules.specs.declared.kinds.Bus.{Bus}
+use Rattle.rules.specs.declared.kinds.Outcome.the-variants.{Nothing}
+use Rattle.rules.specs.declared.kinds.Verdict.{Verdict}
 use Rattle.rules.specs.State as rules
 use Rattle.rules.specs.Numbers.{number, made, laid}
-use Rattle.rules.specs.Frames.{shortestReply}
+use Rattle.rules.specs.Frames.{shortestReply, ignored}
 use Rattle.rules.specs.Board.{Called}
 use Rattle.state.specs.declared.State.{State}
 use Rattle.state.specs.View.{view, largestFrame}
 use Rattle.response.specs.declared.Response.{Response}
 use Rattle.response.specs.declared.Response.the-variants.{Reply, NoReply}
 use Rattle.answer.specs.declared.Answer.{Answer}
+
+-- nothing to send: number 1 and the very state, bytes that mean nothing too
+abbrev pub silent : State → Answer
+silent s = record { outcome = Nothing; state = s }
 
 pub record CallEffect : Type 0 where
   pub number : ℕ
@@ -30,6 +37,12 @@ callEffect r d out = record { number = number (r .outcome); made = made (r .outc
 abbrev pub expectedEffect : Called → List ℕ → CallEffect
 expectedEffect c out =
     record { number = c .number; made = length (c .reply); state = c .state; flash = c .flash; out = laid (c .reply) out }
+
+-- a frame of verdict v, handled on the state s, is answered by r, and leaves the flash d and the buffer out, which was before
+pub record Handled (s : State) (r : Answer) (d out before : List ℕ) (c : Called) (v : Verdict) : Type 0 where
+  pub called : callEffect r d out ≡ expectedEffect c before
+  -- an ignored frame: the very state that was given
+  pub untouched : ignored v ≡ true → r .state ≡ s
 
 -- a call on the state s answered r, and left the flash d and the buffer out, which was before
 pub record Answered (s : State) (r : Answer) (d out before : List ℕ) (c : Called) : Type 0 where

@@ -13,10 +13,10 @@ ghost use Rattle.rules.specs.Frames as frames;
 ghost use Rattle.rules.specs.Frames.{headerLength};
 ghost use Rattle.rules.specs.Responses as responses;
 ghost use Rattle.rules.specs.Responses.{Acted};
-ghost use Rattle.rules.specs.Board.{finishedCall, nothing};
+ghost use Rattle.rules.specs.Board.{finishedCall};
 ghost use Rattle.state.specs.View.{view};
 ghost use Rattle.response.specs.Done as buffered;
-ghost use Rattle.answer.specs.Answered.{callEffect, expectedEffect, Fits};
+ghost use Rattle.answer.specs.Answered.{silent, callEffect, expectedEffect, Fits};
 
 pub struct Answer {
     pub outcome: Outcome,
@@ -35,7 +35,7 @@ pub fn destination(bus: Bus, address: u8, frame: &[u8]) -> u8
 
 // Nothing to send.
 pub fn no_reply(s: State) -> Answer
-    ensures { λ r. ⌜ ((d : List ℕ) (o : List ℕ) → callEffect r d o ≡ expectedEffect (nothing (view s) d) o) ⌝ }
+    ensures { λ r. ⌜ r ≡ silent s ⌝ }
 {
     Answer {
         outcome: Outcome::Nothing,

@@ -12,6 +12,7 @@ use numbers::decoded_number;
 use numbers::encoded_number;
 use rules::kinds::Bus;
 use rules::kinds::Outcome;
+use rules::kinds::Reason;
 use rules::kinds::Verdict;
 use rules::requests::Decoded;
 use rules::requests::Encoded;
@@ -78,16 +79,22 @@ fn silent_command(code: usize) -> usize {
     }
 }
 
+fn ignored_for(r: Reason) -> usize {
+    match r {
+        Reason::Running => 0,
+        Reason::Short => 1,
+        Reason::Long => 2,
+        Reason::WrongSum => 3,
+        Reason::Foreign(_) => 4,
+        Reason::OtherGeneral => 5,
+    }
+}
+
 fn reason(v: Verdict, code: usize) -> usize {
     match v {
         Verdict::Reset => 7,
-        Verdict::Running => 0,
         Verdict::ResetAddress => 7,
-        Verdict::Short => 1,
-        Verdict::Long => 2,
-        Verdict::WrongSum => 3,
-        Verdict::Foreign => 4,
-        Verdict::OtherGeneral => 5,
+        Verdict::Ignored(r) => ignored_for(r),
         Verdict::BadTransfer => 9,
         Verdict::BadSum => 9,
         Verdict::Command => silent_command(code),

@@ -18,7 +18,7 @@ ghost use Rattle.rules.specs.Board.{handled, received};
 ghost use Rattle.laws.proofs.StateLaws as laws;
 ghost use Rattle.state.specs.View.{view};
 ghost use Rattle.profile.specs.View.{profileOf};
-ghost use Rattle.answer.specs.Answered.{callEffect, expectedEffect, Answered};
+ghost use Rattle.answer.specs.Answered.{Handled, Answered};
 
 // A frame by its verdict.
 fn handle(
@@ -31,24 +31,18 @@ fn handle(
 ) -> Answer
     requires { ⌜ laws.Unrefused (profileOf p) (view s) (length (now flash)) (length (now out)) ⌝ }
     ensures { λ r.
-        ⌜ callEffect r (now (flash .exit)) (now (out .exit))
-        ≡ expectedEffect
+        ⌜ Handled s r (now (flash .exit)) (now (out .exit)) (now (out .entry))
         (handled (profileOf p) (view s) address (now (frame .entry)) (now (flash .entry))
         (frames.verdict (p .bus) (p .longest) (s .running) (s .address) address (now (frame .entry))))
-        (now (out .entry)) ⌝ }
+        (frames.verdict (p .bus) (p .longest) (s .running) (s .address) address (now (frame .entry))) ⌝ }
 {
     let bus = p.bus;
     let own = s.address;
     let v = verdict::classify(bus, p.longest, s.running, own, address, frame);
     match v {
         Verdict::Reset => no_reply(State::fresh()),
-        Verdict::Running => no_reply(s),
         Verdict::ResetAddress => no_reply(s.address_reset()),
-        Verdict::Short => no_reply(s),
-        Verdict::Long => no_reply(s),
-        Verdict::WrongSum => no_reply(s),
-        Verdict::Foreign => no_reply(s),
-        Verdict::OtherGeneral => no_reply(s),
+        Verdict::Ignored(_) => no_reply(s),
         Verdict::BadTransfer => fault(
             bus,
             destination(bus, address, frame),

@@ -10,9 +10,9 @@ use borrow.Author.Tests.{ne-eqb, le-ltb, ltb-true}
 use Rattle.rules.specs.declared.kinds.Bus.{Bus}
 use Rattle.rules.specs.declared.kinds.Bus.the-variants.{I2c, Rs485}
 use Rattle.rules.specs.declared.kinds.Address.{Address}
+use Rattle.rules.specs.declared.kinds.Reason.the-variants.{Running, Foreign}
 use Rattle.rules.specs.declared.kinds.Verdict.{Verdict}
-use Rattle.rules.specs.declared.kinds.Verdict.the-variants.{Reset, Running, ResetAddress, Short, Long, WrongSum, Foreign, OtherGeneral}
-use Rattle.rules.specs.declared.kinds.Verdict.the-variants.{BadTransfer, BadSum, Command}
+use Rattle.rules.specs.declared.kinds.Verdict.the-variants.{Reset, ResetAddress, Ignored, BadTransfer, BadSum, Command}
 use Rattle.rules.specs.Profile.{Profile}
 use Rattle.rules.specs.State.{State}
 use Rattle.rules.specs.Frames.{addressed, framing, verdict}
@@ -27,8 +27,8 @@ addressed-foreign own a h = rw (ne-eqb a 0 (λ e. omega arith), le-ltb a 128 h)
 -- on I²C
 
 foreign-verdict : Bool → Verdict
-foreign-verdict true = Running
-foreign-verdict false = Foreign
+foreign-verdict true = Ignored Running
+foreign-verdict false = Ignored (Foreign I2c)
 
 verdict-foreign : (M : ℕ) (running : Bool) (own : Address) (a : ℕ) (f : List ℕ) → 128 ≤ a
     → verdict I2c M running own a f ≡ foreign-verdict running
@@ -48,13 +48,8 @@ handled-rs485 : (p : Profile) (s : State) (a b : ℕ) (f d : List ℕ) (v : Verd
     → handled p s a f d v ≡ handled p s b f d v
 unfolding handled
 handled-rs485 p s a b f d Reset e = refl
-handled-rs485 p s a b f d Running e = refl
 handled-rs485 p s a b f d ResetAddress e = refl
-handled-rs485 p s a b f d Short e = refl
-handled-rs485 p s a b f d Long e = refl
-handled-rs485 p s a b f d WrongSum e = refl
-handled-rs485 p s a b f d Foreign e = refl
-handled-rs485 p s a b f d OtherGeneral e = refl
+handled-rs485 p s a b f d (Ignored reason) e = refl
 handled-rs485 p s a b f d BadTransfer e = rw e
 handled-rs485 p s a b f d BadSum e = rw e
 handled-rs485 p s a b f d Command e = rw e

@@ -11,29 +11,23 @@ use borrow.Author.Tests.{not-true, le-leb}
 use Rattle.rules.specs.declared.kinds.Bus.{Bus}
 use Rattle.rules.specs.declared.kinds.Bus.the-variants.{I2c, Rs485}
 use Rattle.rules.specs.declared.kinds.Verdict.{Verdict}
-use Rattle.rules.specs.declared.kinds.Verdict.the-variants.{Reset, Running, ResetAddress, Short, Long, WrongSum, Foreign, OtherGeneral}
-use Rattle.rules.specs.declared.kinds.Verdict.the-variants.{BadTransfer, BadSum, Command}
+use Rattle.rules.specs.declared.kinds.Verdict.the-variants.{Reset, ResetAddress, Ignored, BadTransfer, BadSum, Command}
 use Rattle.rules.specs.Profile.{Profile}
 use Rattle.rules.specs.State.{State}
 use Rattle.rules.specs.CheckSums.{sumRight}
-use Rattle.rules.specs.Frames.{shortestRequest, destination, commandOf, argumentsOf, numberAt, framing, verdict}
+use Rattle.rules.specs.Frames.{shortestRequest, destination, commandOf, argumentsOf, numberAt, framing, verdict, isCommand}
 use Rattle.rules.specs.Responses.{Reply, replying, ok, invalidArguments}
 use Rattle.rules.specs.Commands.{accepted, written, readable, shown, performed, executed, tabled}
 use Rattle.rules.specs.Board.{finishedCall, handled}
 use Rattle.laws.proofs.TestLaws.{by-test, &&-true}
-use Rattle.laws.proofs.VerdictLaws.{Framed, framing-cases, verdict-cases}
-use Rattle.demands.specs.Past.{isCommand, wellFramed}
+use Rattle.laws.proofs.VerdictLaws.{Framed, framing-cases, verdict-cases, framing-framed}
+use Rattle.demands.specs.Past.{wellFramed}
 use Rattle.demands.proofs.PastLaws.{pastOf}
 
 isCommand-true : (v : Verdict) → isCommand v ≡ true → v ≡ Command
 isCommand-true Reset e = absurd (false≢true e)
-isCommand-true Running e = absurd (false≢true e)
 isCommand-true ResetAddress e = absurd (false≢true e)
-isCommand-true Short e = absurd (false≢true e)
-isCommand-true Long e = absurd (false≢true e)
-isCommand-true WrongSum e = absurd (false≢true e)
-isCommand-true Foreign e = absurd (false≢true e)
-isCommand-true OtherGeneral e = absurd (false≢true e)
+isCommand-true (Ignored reason) e = absurd (false≢true e)
 isCommand-true BadTransfer e = absurd (false≢true e)
 isCommand-true BadSum e = absurd (false≢true e)
 isCommand-true Command e = refl
@@ -58,20 +52,7 @@ module _ (p : Profile) (s : State) (a : ℕ) (f : List ℕ) (heard : wellFramed 
       isCommand-true _ (&&-true (not (s .running)) (isCommand (framing (p .bus) (p .longest) (s .address) a f)) heard .1)
 
   framed : Framed (p .bus) (p .longest) (s .address) a f
-  framed =
-      framing-cases (p .bus) (p .longest) (s .address) a f
-      (λ (v : Verdict). isCommand v ≡ true → Framed (p .bus) (p .longest) (s .address) a f)
-      (record {
-        short = λ b e. absurd (false≢true e);
-        long = λ b e. absurd (false≢true e);
-        wrong-sum = λ b e. absurd (false≢true e);
-        foreign = λ e. absurd (false≢true e);
-        other-general = λ e. absurd (false≢true e);
-        bad-transfer = λ b e. absurd (false≢true e);
-        bad-sum = λ b e. absurd (false≢true e);
-        command = λ framed e. framed;
-      })
-      (rw framing-command)
+  framed = framing-framed (p .bus) (p .longest) (s .address) a f (rw framing-command)
 
   verdict-command : verdict (p .bus) (p .longest) (s .running) (s .address) a f ≡ Command
   unfolding verdict
@@ -128,11 +109,7 @@ damaged-dropped p s a f d bus wrong =
       framed = λ g e r.
           framing-cases (p .bus) (p .longest) (s .address) a f (λ (v : Verdict). handled p s a f d v .number ≡ 1)
           (record {
-            short = λ b. refl;
-            long = λ b. refl;
-            wrong-sum = λ b. refl;
-            foreign = refl;
-            other-general = refl;
+            silent = λ reason. refl;
             bad-transfer = λ b. cc;
             bad-sum = λ b. cc;
             command = λ framed. absurd (false≢true (sym wrong ∙ rw bus at (framed .sum-right)));

@@ -83,11 +83,7 @@ ignored-kept p s a f d stray =
       framed = λ g e r.
           framing-cases (p .bus) (p .longest) (s .address) a f (Keeps p s a f d)
           (record {
-            short = λ b. (refl, refl);
-            long = λ b. (refl, refl);
-            wrong-sum = λ b. (refl, refl);
-            foreign = (refl, refl);
-            other-general = (refl, refl);
+            silent = λ reason. (refl, refl);
             bad-transfer = λ b. (refl, withReply-upload (p .bus) s (status invalidTransfer));
             bad-sum = λ b. (refl, withReply-upload (p .bus) s (status invalidCrc));
             command = λ framed. absurd (stray .not-framed framed);

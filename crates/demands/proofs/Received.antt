@@ -7,8 +7,9 @@ use Prim.Native.Nat.{ℕ}
 use lib.Dec.{eqb}
 use lib.ListN.{length}
 use borrow.Author.Tests.{eqb-true, eqb-false}
+use Rattle.rules.specs.declared.kinds.Reason.{Reason}
 use Rattle.rules.specs.declared.kinds.Verdict.{Verdict}
-use Rattle.rules.specs.declared.kinds.Verdict.the-variants.{Short, Long, WrongSum, Foreign, OtherGeneral}
+use Rattle.rules.specs.declared.kinds.Verdict.the-variants.{Ignored}
 use Rattle.rules.specs.Profile.{Profile}
 use Rattle.rules.specs.State.{State}
 use Rattle.rules.specs.Numbers.{refusal}
@@ -18,19 +19,19 @@ use Rattle.rules.specs.Board.{nothing, handled, received}
 use Rattle.laws.proofs.TestLaws.{by-test}
 use Rattle.laws.proofs.VerdictLaws.{framing-cases, verdict-cases}
 use Rattle.laws.proofs.BoardLaws.{received-handled, received-refused, refusal-least}
-use Rattle.demands.specs.Past.{isCommand, wellFramed, afterFrame}
+use Rattle.demands.specs.Past.{wellFramed, afterFrame}
 use Rattle.demands.proofs.PastLaws.{pastOf, after-silence, after-refusal}
 use Rattle.demands.proofs.Followed.{Follows, refused-followed, executed-followed}
 
 module _ (p : Profile) (s : State) (a : ℕ) (f d : List ℕ) where
   -- nothing to send, to a frame that is no general call
-  no-reply-followed : (v : Verdict) → isGeneral (p .bus) a f (resetFrame (p .bus)) ≡ false
+  silent-followed : (reason : Reason) → isGeneral (p .bus) a f (resetFrame (p .bus)) ≡ false
       → isGeneral (p .bus) a f (resetAddressFrame (p .bus)) ≡ false
-      → isCommand v ≡ false → framing (p .bus) (p .longest) (s .address) a f ≡ v → Follows p s a f (nothing s d)
+      → framing (p .bus) (p .longest) (s .address) a f ≡ Ignored reason → Follows p s a f (nothing s d)
   unfolding wellFramed
-  no-reply-followed v no-reset no-address none is =
+  silent-followed reason no-reset no-address is =
       after-silence p (pastOf s) a f [] no-reset (rw no-address (and-false (not (s .running))))
-      (rw (is, none, and-false (not (s .running))))
+      (rw (is, and-false (not (s .running))))
 
   running-followed : isGeneral (p .bus) a f (resetFrame (p .bus)) ≡ false → s .running ≡ true → Follows p s a f (nothing s d)
   unfolding wellFramed
@@ -48,11 +49,7 @@ module _ (p : Profile) (s : State) (a : ℕ) (f d : List ℕ) where
             framing-cases (p .bus) (p .longest) (s .address) a f
             (λ (v : Verdict). framing (p .bus) (p .longest) (s .address) a f ≡ v → Follows p s a f (handled p s a f d v))
             (record {
-              short = λ b. no-reply-followed Short no-reset no-address refl;
-              long = λ b. no-reply-followed Long no-reset no-address refl;
-              wrong-sum = λ b. no-reply-followed WrongSum no-reset no-address refl;
-              foreign = no-reply-followed Foreign no-reset no-address refl;
-              other-general = no-reply-followed OtherGeneral no-reset no-address refl;
+              silent = λ reason. silent-followed reason no-reset no-address;
               bad-transfer = λ b is. refused-followed p s a f d invalidTransfer refl;
               bad-sum = λ b is. refused-followed p s a f d invalidCrc refl;
               command = λ framed is. executed-followed p s a f d (rw (stopped, is)) no-reset no-address;

@@ -7,11 +7,8 @@ use lib.ListN.{length, getD}
 use Rattle.rules.specs.declared.kinds.Bus.{Bus}
 use Rattle.rules.specs.declared.kinds.Address.{Address}
 use Rattle.rules.specs.declared.kinds.Address.the-variants.{DefaultRange, Own}
-use Rattle.rules.specs.declared.kinds.Verdict.{Verdict}
-use Rattle.rules.specs.declared.kinds.Verdict.the-variants.{Reset, Running, ResetAddress, Short, Long, WrongSum, Foreign, OtherGeneral}
-use Rattle.rules.specs.declared.kinds.Verdict.the-variants.{BadTransfer, BadSum, Command}
 use Rattle.rules.specs.Profile.{Profile}
-use Rattle.rules.specs.Frames.{framing, isGeneral, resetAddressFrame, resetFrame, commandOf, argumentsOf}
+use Rattle.rules.specs.Frames.{framing, isCommand, isGeneral, resetAddressFrame, resetFrame, commandOf, argumentsOf}
 use Rattle.rules.specs.Commands.{addressTaken}
 use Rattle.ledger.specs.Ledger.{answeredOk, writeAddress, writeData}
 use Rattle.ledger.specs.Calls.{Call, Frame, Read, Step}
@@ -23,19 +20,6 @@ pub record Past : Type 0 where
 
 abbrev pub initialPast : Past
 initialPast = record { running = false; address = DefaultRange; next = 0 }
-
-abbrev pub isCommand : Verdict → Bool
-isCommand Reset = false
-isCommand Running = false
-isCommand ResetAddress = false
-isCommand Short = false
-isCommand Long = false
-isCommand WrongSum = false
-isCommand Foreign = false
-isCommand OtherGeneral = false
-isCommand BadTransfer = false
-isCommand BadSum = false
-isCommand Command = true
 
 -- a well-framed command to this board (not to all boards), while it isn't running
 unfoldable pub wellFramed : Profile → Past → ℕ → List ℕ → Bool

@@ -2,6 +2,7 @@
 use addressing::addressed;
 use rules::kinds::Address;
 use rules::kinds::Bus;
+use rules::kinds::Reason;
 use rules::kinds::Verdict;
 ghost use mathlib.Core.Path.{_≡_};
 ghost use Rattle.rules.specs.Frames.{framing};
@@ -11,10 +12,10 @@ pub fn i2c_framing(longest: usize, own: Address, to: u8, frame: &[u8]) -> Verdic
     ensures { λ r. ⌜ r ≡ framing Bus.I2c longest own to (now (frame .entry)) ⌝ }
 {
     if to == 0 {
-        return Verdict::OtherGeneral;
+        return Verdict::Ignored(Reason::OtherGeneral);
     }
     if !addressed(Bus::I2c, own, to) {
-        return Verdict::Foreign;
+        return Verdict::Ignored(Reason::Foreign(Bus::I2c));
     }
     if frame.len() < 2 {
         return Verdict::BadTransfer;
@@ -33,20 +34,20 @@ pub fn rs485_framing(longest: usize, own: Address, frame: &[u8]) -> Verdict
     ensures { λ r. ⌜ r ≡ framing Bus.Rs485 longest own 0 (now (frame .entry)) ⌝ }
 {
     if frame.len() < 4 {
-        return Verdict::Short;
+        return Verdict::Ignored(Reason::Short);
     }
     if longest < frame.len() {
-        return Verdict::Long;
+        return Verdict::Ignored(Reason::Long);
     }
     if !crc::sum_right(Bus::Rs485, frame) {
-        return Verdict::WrongSum;
+        return Verdict::Ignored(Reason::WrongSum);
     }
     let to = frame[0];
     if to == 0 {
-        return Verdict::OtherGeneral;
+        return Verdict::Ignored(Reason::OtherGeneral);
     }
     if !addressed(Bus::Rs485, own, to) {
-        return Verdict::Foreign;
+        return Verdict::Ignored(Reason::Foreign(Bus::Rs485));
     }
     Verdict::Command
 }

@@ -1,6 +1,6 @@
 -- Laws of the board calls: a well-formed state stays well formed, flash keeps its length, and a reply has at most M bytes. Why: a command
 -- keeps its upload well formed (`CommandLaws`), and its reply is the last reply.
-use mathlib.Core.Path.{_≡_, refl, sym}
+use mathlib.Core.Path.{_≡_, refl, sym, ap, _∙_}
 use mathlib.Core.Bool.{Bool, true, false, cond, not, false≢true}
 use mathlib.Core.List.{List, []}
 use Prim.Native.Nat.{ℕ, _≤_}
@@ -11,14 +11,15 @@ use borrow.Author.Tests.{eqb-true, eq-eqb, ne-eqb}
 use Rattle.rules.specs.declared.kinds.Bus.{Bus}
 use Rattle.rules.specs.declared.kinds.Bus.the-variants.{I2c, Rs485}
 use Rattle.rules.specs.declared.kinds.Verdict.{Verdict}
-use Rattle.rules.specs.declared.kinds.Verdict.the-variants.{Reset, Running, ResetAddress, Short, Long, WrongSum, Foreign, OtherGeneral}
-use Rattle.rules.specs.declared.kinds.Verdict.the-variants.{BadTransfer, BadSum, Command}
+use Rattle.rules.specs.declared.kinds.Verdict.the-variants.{Reset, ResetAddress, Ignored, BadTransfer, BadSum, Command}
 use Rattle.rules.specs.Profile.{Profile, inRange}
 use Rattle.rules.specs.State.{State, fresh, withLast, wellFormed}
 use Rattle.rules.specs.Numbers.{refusal, flashShort, bufferShort}
-use Rattle.rules.specs.Frames.{reply, destination, verdict, commandOf, argumentsOf}
+use Rattle.rules.specs.Frames.{reply, destination, verdict, ignored, commandOf, argumentsOf}
 use Rattle.rules.specs.Responses.{Response, Reply, NoReply, Acted, invalidTransfer, invalidCrc}
-use Rattle.rules.specs.Board.{Called, withReply, replied, finishedCall, addressReset, handled, refused, received, readAnswered, readOut}
+use Rattle.rules.specs.Commands.{executed}
+use Rattle.rules.specs.Board.{Called, nothing, withReply, replied, finishedCall, addressReset, handled, refused, received, readAnswered}
+use Rattle.rules.specs.Board.{readOut}
 use Rattle.laws.proofs.StateLaws.{UploadFacts, ReplyFacts, Unrefused, facts-wellFormed, wellFormed-facts, fresh-wellFormed}
 use Rattle.laws.proofs.StateLaws.{refusal-unrefused}
 use Rattle.laws.proofs.TestLaws.{by-test}
@@ -76,14 +77,9 @@ module _ (p : Profile) (s : State) (d : List ℕ) where
   handled-formed-call : (n a : ℕ) (f : List ℕ) (v : Verdict) → Unrefused p s (length d) n → FormedCall p d (handled p s a f d v)
   unfolding handled
   handled-formed-call n a f Reset unrefused = nothing-formed p 1 fresh d (fresh-wellFormed p)
-  handled-formed-call n a f Running unrefused = nothing-formed p 1 s d (unrefused .well-formed)
   handled-formed-call n a f ResetAddress unrefused =
       nothing-formed p 1 (addressReset s) d (addressReset-formed p s (unrefused .state .upload))
-  handled-formed-call n a f Short unrefused = nothing-formed p 1 s d (unrefused .well-formed)
-  handled-formed-call n a f Long unrefused = nothing-formed p 1 s d (unrefused .well-formed)
-  handled-formed-call n a f WrongSum unrefused = nothing-formed p 1 s d (unrefused .well-formed)
-  handled-formed-call n a f Foreign unrefused = nothing-formed p 1 s d (unrefused .well-formed)
-  handled-formed-call n a f OtherGeneral unrefused = nothing-formed p 1 s d (unrefused .well-formed)
+  handled-formed-call n a f (Ignored reason) unrefused = nothing-formed p 1 s d (unrefused .well-formed)
   handled-formed-call n a f BadTransfer unrefused =
       finishedCall-formed-call p d (destination (p .bus) a f)
       _ (replying-formed-result p (unrefused .profile) s (unrefused .state .upload) d (unrefused .flash-holds) invalidTransfer []
@@ -123,6 +119,40 @@ module _ (p : Profile) (s : State) (d : List ℕ) where
       → received p s a f d n ≡ refused (refusal p s (length d) n) s d
   unfolding received
   received-refused a f n ne = rw (ne-eqb _ _ ne)
+
+-- a command's answer has number 0 or 1
+pub finishedCall-number : (bus : Bus) (a : ℕ) (act : Acted) → finishedCall bus a act .number ≤ 1
+finishedCall-number bus a act = go (act .response)
+  where
+    go : (r : Response) → replied bus a r (act .state) (act .flash) .number ≤ 1
+    go (Reply status results) = omega arith
+    go NoReply = omega arith
+
+module _ (p : Profile) (s : State) (a : ℕ) (f d : List ℕ) where
+  -- an ignored frame gets no reply, and state and flash are untouched
+  pub ignored-untouched : (v : Verdict) → ignored v ≡ true → handled p s a f d v ≡ nothing s d
+  unfolding handled
+  ignored-untouched Reset e = cc
+  ignored-untouched ResetAddress e = cc
+  ignored-untouched (Ignored reason) e = refl
+  ignored-untouched BadTransfer e = cc
+  ignored-untouched BadSum e = cc
+  ignored-untouched Command e = cc
+
+  -- only an ignored frame may get a number of 2 or above
+  pub numbered-ignored : (v : Verdict) → 2 ≤ handled p s a f d v .number → ignored v ≡ true
+  unfolding handled
+  numbered-ignored Reset h = absurd (omega arith)
+  numbered-ignored ResetAddress h = absurd (omega arith)
+  numbered-ignored (Ignored reason) h = refl
+  numbered-ignored BadTransfer h = absurd (omega arith)
+  numbered-ignored BadSum h = absurd (omega arith)
+  numbered-ignored Command h = absurd (omega (arith, finishedCall-number (p .bus) (destination (p .bus) a f)
+      (executed p s (commandOf (p .bus) f) (argumentsOf (p .bus) f) d)))
+
+  -- so a number of 2 or above leaves state and flash untouched
+  pub handled-untouched : (v : Verdict) → 2 ≤ handled p s a f d v .number → handled p s a f d v ≡ refused (handled p s a f d v .number) s d
+  handled-untouched v h = let same = ignored-untouched v (numbered-ignored v h) in same ∙ ap (λ (n : ℕ). refused n s d) (ap (λ (c : Called). c .number) (sym same))
 
 -- a refusal is 2 or above
 pub refusal-least : (p : Profile) (s : State) (n m : ℕ) → eqb (refusal p s n m) 0 ≡ false → 2 ≤ refusal p s n m

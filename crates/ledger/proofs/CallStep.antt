@@ -39,11 +39,7 @@ module _ (p : Profile) (s : State) (d : List ℕ) (k : Ledger) (a : ℕ) (f : Li
       let dropped : Entered p k a f (nothing s d) = nothing-no-entry p k a f s d form kept in
       framing-cases (p .bus) (p .longest) (s .address) a f Handles
       (record {
-        short = λ rs485. dropped;
-        long = λ rs485. dropped;
-        wrong-sum = λ rs485. dropped;
-        foreign = dropped;
-        other-general = dropped;
+        silent = λ reason. dropped;
         bad-transfer = λ i2c. error-no-entry p k a f (destination (p .bus) a f) invalidTransfer [] s d refl kept;
         bad-sum = λ i2c. error-no-entry p k a f (destination (p .bus) a f) invalidCrc [] s d refl kept;
         command = λ framed. executed-enters p s d k a f (destination (p .bus) a f) h form;

@@ -8,8 +8,7 @@ use Rattle.rules.specs.declared.kinds.Bus.{Bus}
 use Rattle.rules.specs.declared.kinds.Bus.the-variants.{I2c, Rs485}
 use Rattle.rules.specs.declared.kinds.Address.the-variants.{DefaultRange}
 use Rattle.rules.specs.declared.kinds.Verdict.{Verdict}
-use Rattle.rules.specs.declared.kinds.Verdict.the-variants.{Reset, Running, ResetAddress, Short, Long, WrongSum, Foreign}
-use Rattle.rules.specs.declared.kinds.Verdict.the-variants.{OtherGeneral, BadTransfer, BadSum, Command}
+use Rattle.rules.specs.declared.kinds.Verdict.the-variants.{Reset, ResetAddress, Ignored, BadTransfer, BadSum, Command}
 use Rattle.rules.specs.Profile.{Profile}
 use Rattle.rules.specs.State.{State, fresh, withAddress, withLast}
 use Rattle.rules.specs.Numbers.{refusal}
@@ -50,13 +49,8 @@ addressReset s = withLast (withAddress s DefaultRange) []
 -- a frame by its verdict
 unfoldable pub handled : Profile → State → ℕ → List ℕ → List ℕ → Verdict → Called
 handled p s a f d Reset = nothing fresh d
-handled p s a f d Running = nothing s d
 handled p s a f d ResetAddress = nothing (addressReset s) d
-handled p s a f d Short = nothing s d
-handled p s a f d Long = nothing s d
-handled p s a f d WrongSum = nothing s d
-handled p s a f d Foreign = nothing s d
-handled p s a f d OtherGeneral = nothing s d
+handled p s a f d (Ignored reason) = nothing s d
 handled p s a f d BadTransfer = finishedCall (p .bus) (destination (p .bus) a f) (replying s d invalidTransfer [])
 handled p s a f d BadSum = finishedCall (p .bus) (destination (p .bus) a f) (replying s d invalidCrc [])
 handled p s a f d Command =

@@ -8,9 +8,10 @@ use Rattle.rules.specs.declared.kinds.Bus.{Bus}
 use Rattle.rules.specs.declared.kinds.Bus.the-variants.{I2c, Rs485}
 use Rattle.rules.specs.declared.kinds.Address.{Address}
 use Rattle.rules.specs.declared.kinds.Address.the-variants.{DefaultRange, Own}
+use Rattle.rules.specs.declared.kinds.Reason.{Reason}
+use Rattle.rules.specs.declared.kinds.Reason.the-variants.{Running, Short, Long, WrongSum, Foreign, OtherGeneral}
 use Rattle.rules.specs.declared.kinds.Verdict.{Verdict}
-use Rattle.rules.specs.declared.kinds.Verdict.the-variants.{Reset, Running, ResetAddress, Short, Long, WrongSum, Foreign}
-use Rattle.rules.specs.declared.kinds.Verdict.the-variants.{OtherGeneral, BadTransfer, BadSum, Command}
+use Rattle.rules.specs.declared.kinds.Verdict.the-variants.{Reset, ResetAddress, Ignored, BadTransfer, BadSum, Command}
 use Rattle.rules.specs.Bytes.{same}
 use Rattle.rules.specs.CheckSums.{sum, sumLength, sealed, unsealed, sumRight}
 
@@ -87,16 +88,16 @@ addressed bus own a = not (eqb a 0) && (addressFits bus a && answersTo own a)
 -- a frame that is neither of the two general calls, to a board that is not running
 unfoldable pub framing : Bus → ℕ → Address → ℕ → List ℕ → Verdict
 framing I2c M own a f =
-    cond (eqb a 0) OtherGeneral
-    (cond (not (addressed I2c own a)) Foreign
+    cond (eqb a 0) (Ignored OtherGeneral)
+    (cond (not (addressed I2c own a)) (Ignored (Foreign I2c))
     (cond (ltb (length f) (shortestRequest I2c) || ltb M (length f)) BadTransfer
     (cond (not (sumRight I2c f)) BadSum Command)))
 framing Rs485 M own a f =
-    cond (ltb (length f) (shortestRequest Rs485)) Short
-    (cond (ltb M (length f)) Long
-    (cond (not (sumRight Rs485 f)) WrongSum
-    (cond (eqb (getD f 0 0) 0) OtherGeneral
-    (cond (not (addressed Rs485 own (getD f 0 0))) Foreign Command))))
+    cond (ltb (length f) (shortestRequest Rs485)) (Ignored Short)
+    (cond (ltb M (length f)) (Ignored Long)
+    (cond (not (sumRight Rs485 f)) (Ignored WrongSum)
+    (cond (eqb (getD f 0 0) 0) (Ignored OtherGeneral)
+    (cond (not (addressed Rs485 own (getD f 0 0))) (Ignored (Foreign Rs485)) Command))))
 
 -- a general call is sent to address 0 and has its exact form
 abbrev pub isGeneral : Bus → ℕ → List ℕ → List ℕ → Bool
@@ -106,6 +107,24 @@ isGeneral bus a f form = eqb (destination bus a f) 0 && same f form
 unfoldable pub verdict : Bus → ℕ → Bool → Address → ℕ → List ℕ → Verdict
 verdict bus M running own a f =
     cond (isGeneral bus a f (resetFrame bus)) Reset
-    (cond running Running
+    (cond running (Ignored Running)
     (cond (isGeneral bus a f (resetAddressFrame bus)) ResetAddress
     (framing bus M own a f)))
+
+-- silence that means no dead board: the frame changes nothing and gets no reply
+abbrev pub ignored : Verdict → Bool
+ignored Reset = false
+ignored ResetAddress = false
+ignored (Ignored reason) = true
+ignored BadTransfer = false
+ignored BadSum = false
+ignored Command = false
+
+-- a well-framed command to this board
+abbrev pub isCommand : Verdict → Bool
+isCommand Reset = false
+isCommand ResetAddress = false
+isCommand (Ignored reason) = false
+isCommand BadTransfer = false
+isCommand BadSum = false
+isCommand Command = true

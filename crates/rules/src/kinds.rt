@@ -12,24 +12,30 @@ pub enum Address {
     Own(u8),
 }
 
-// What a received frame is to a board, before its answer's number.
-pub enum Verdict {
-    // The second general call: reset.
-    Reset,
-    // Any other frame while the application runs.
+// Why a frame gets no reply and changes nothing.
+pub enum Reason {
+    // Any frame but the reset while the application runs.
     Running,
-    // The first general call: reset address.
-    ResetAddress,
     // RS485: shorter than any request.
     Short,
     // RS485: longer than M.
     Long,
     // RS485: wrong check sum.
     WrongSum,
-    // For another board.
-    Foreign,
-    // Any other general call.
+    // For another board, by the bus it came on.
+    Foreign(Bus),
+    // A general call that is neither of the two.
     OtherGeneral,
+}
+
+// What a received frame is to a board, before its answer's number.
+pub enum Verdict {
+    // The second general call: reset.
+    Reset,
+    // The first general call: reset address.
+    ResetAddress,
+    // No reply, and nothing changes.
+    Ignored(Reason),
     // I²C: INVALID_TRANSFER.
     BadTransfer,
     // I²C: INVALID_CRC.

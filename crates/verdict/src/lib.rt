@@ -5,6 +5,7 @@ use general_calls::is_reset;
 use general_calls::is_reset_address;
 use rules::kinds::Address;
 use rules::kinds::Bus;
+use rules::kinds::Reason;
 use rules::kinds::Verdict;
 ghost use mathlib.Core.Path.{_≡_};
 ghost use Rattle.rules.specs.Frames.{verdict};
@@ -24,7 +25,7 @@ pub fn classify(
         return Verdict::Reset;
     }
     if running {
-        return Verdict::Running;
+        return Verdict::Ignored(Reason::Running);
     }
     if is_reset_address(bus, to, frame) {
         return Verdict::ResetAddress;

@@ -7,18 +7,16 @@ use lib.Dec.{eqb}
 use lib.ListN.{length}
 use borrow.Author.Tests.{eqb-true}
 use Rattle.rules.specs.declared.kinds.Verdict.{Verdict}
-use Rattle.rules.specs.declared.kinds.Verdict.the-variants.{Reset, Running, ResetAddress, Short, Long, WrongSum, Foreign, OtherGeneral}
-use Rattle.rules.specs.declared.kinds.Verdict.the-variants.{BadTransfer, BadSum, Command}
+use Rattle.rules.specs.declared.kinds.Verdict.the-variants.{Reset, ResetAddress, Ignored, BadTransfer, BadSum, Command}
 use Rattle.rules.specs.Profile.{Profile}
 use Rattle.rules.specs.State.{State}
 use Rattle.rules.specs.Numbers.{refusal}
-use Rattle.rules.specs.Frames.{destination, verdict, commandOf, argumentsOf}
+use Rattle.rules.specs.Frames.{destination, verdict, isCommand, commandOf, argumentsOf}
 use Rattle.rules.specs.Commit.{Progress, committed, taken, takenAll, finalized}
 use Rattle.rules.specs.Responses.{Acted}
 use Rattle.rules.specs.Commands.{tabled, lengthAllowed, written, finished, performed, executed}
 use Rattle.rules.specs.Board.{Called, finishedCall, handled, received, refused}
 use Rattle.ledger.specs.Calls.{Call, Frame, Read, reaction, calls}
-use Rattle.demands.specs.Past.{isCommand}
 use Rattle.wrongboards.specs.Variations.{Handling, handlingBy, executing, takenAllBy, writtenBy, finishedBy, committing, VariedRight}
 
 handlingBy-handled : (p : Profile) (s : State) (d : List ℕ) (c : Call) → handlingBy handled p s d c ≡ calls p s d c
@@ -29,13 +27,8 @@ handlingBy-handled p s d (Read a n) = refl
 executing-executed : (p : Profile) (s : State) (a : ℕ) (f d : List ℕ) (v : Verdict) → executing executed p s a f d v ≡ handled p s a f d v
 unfolding handled
 executing-executed p s a f d Reset = refl
-executing-executed p s a f d Running = refl
 executing-executed p s a f d ResetAddress = refl
-executing-executed p s a f d Short = refl
-executing-executed p s a f d Long = refl
-executing-executed p s a f d WrongSum = refl
-executing-executed p s a f d Foreign = refl
-executing-executed p s a f d OtherGeneral = refl
+executing-executed p s a f d (Ignored reason) = refl
 executing-executed p s a f d BadTransfer = refl
 executing-executed p s a f d BadSum = refl
 executing-executed p s a f d Command = refl

@@ -10,13 +10,12 @@ use Rattle.rules.specs.declared.kinds.Verdict.{Verdict}
 use Rattle.rules.specs.Profile.{Profile}
 use Rattle.rules.specs.State.{State, Upload, fresh, withUpload}
 use Rattle.rules.specs.Numbers.{refusal}
-use Rattle.rules.specs.Frames.{destination, verdict, commandOf, argumentsOf, numberAt, twoBytes}
+use Rattle.rules.specs.Frames.{destination, verdict, isCommand, commandOf, argumentsOf, numberAt, twoBytes}
 use Rattle.rules.specs.Commit.{Progress, committed}
 use Rattle.rules.specs.Responses.{Reply, Acted, ok, invalidArguments, replying}
 use Rattle.rules.specs.Commands.{lengthAllowed, accepted, restarted, executed}
 use Rattle.rules.specs.Board.{Called, finishedCall, handled, refused}
 use Rattle.ledger.specs.Calls.{Call, Frame, Read, Reaction, Board, reaction, calls}
-use Rattle.demands.specs.Past.{isCommand}
 
 -- what a frame by its verdict does, as the rules' `handled`
 abbrev pub Handling : Type 0

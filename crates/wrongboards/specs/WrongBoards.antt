@@ -5,12 +5,10 @@ use mathlib.Core.List.{List, [], _∷_, _++_}
 use Prim.Native.Nat.{ℕ, suc, _+_, _-_, _%_}
 use lib.Dec.{eqb, ltb}
 use lib.ListN.{length, take, replicate}
-use Rattle.rules.specs.declared.kinds.Verdict.{Verdict}
-use Rattle.rules.specs.declared.kinds.Verdict.the-variants.{Reset, Running, ResetAddress, Short, Long, WrongSum, Foreign, OtherGeneral}
-use Rattle.rules.specs.declared.kinds.Verdict.the-variants.{BadTransfer, BadSum, Command}
 use Rattle.rules.specs.Profile.{Profile}
 use Rattle.rules.specs.State.{State, Upload, withRunning, withUpload}
-use Rattle.rules.specs.Frames.{destination, numberAt, twoBytes}
+use Rattle.rules.specs.CheckSums.{sumRight}
+use Rattle.rules.specs.Frames.{destination, ignored, numberAt, twoBytes}
 use Rattle.rules.specs.Commit.{Progress, committed, finalized}
 use Rattle.rules.specs.Responses.{Reply, Acted, ok, invalidArguments, invalidCrc, replying}
 use Rattle.rules.specs.Commands.{started, executed}
@@ -90,19 +88,11 @@ takesHalf =
     (record { response = Reply invalidArguments []; state = half .state; flash = half .flash })
     (executed p s code args d))
 
--- "Sending INVALID_CRC on RS485"
+-- "Sending INVALID_CRC on RS485": to a frame that is to be ignored and has a wrong check sum
 abbrev pub invalidCrcHandling : Handling
-invalidCrcHandling p s a f d Reset = handled p s a f d Reset
-invalidCrcHandling p s a f d Running = handled p s a f d Running
-invalidCrcHandling p s a f d ResetAddress = handled p s a f d ResetAddress
-invalidCrcHandling p s a f d Short = handled p s a f d Short
-invalidCrcHandling p s a f d Long = handled p s a f d Long
-invalidCrcHandling p s a f d WrongSum = finishedCall (p .bus) (destination (p .bus) a f) (replying s d invalidCrc [])
-invalidCrcHandling p s a f d Foreign = handled p s a f d Foreign
-invalidCrcHandling p s a f d OtherGeneral = handled p s a f d OtherGeneral
-invalidCrcHandling p s a f d BadTransfer = handled p s a f d BadTransfer
-invalidCrcHandling p s a f d BadSum = handled p s a f d BadSum
-invalidCrcHandling p s a f d Command = handled p s a f d Command
+invalidCrcHandling p s a f d v =
+    cond (ignored v && not (sumRight (p .bus) f)) (finishedCall (p .bus) (destination (p .bus) a f) (replying s d invalidCrc []))
+    (handled p s a f d v)
 
 abbrev pub invalidCrcSent : Board
 invalidCrcSent = boardBy (handlingBy invalidCrcHandling)

@@ -1,6 +1,5 @@
 -- `board::receive` meets its contract: refused by the first of 2 to 5 that applies with all untouched, else handled.
-use Rattle.board.proofs.HandleLaws.{handled-number}
-use Rattle.answer.proofs.AnsweredLaws.{answered}
+use Rattle.board.proofs.HandleLaws.{handled-answered}
 use Rattle.refusal.proofs.Laws.{check-passed, check-refused}
 use Rattle.profile.specs.View.{profileOf}
 use Rattle.state.specs.View.{view}
@@ -60,8 +59,7 @@ returns-2 c =
     let none =
     check-passed p s (length (st .args .flash .now)) (length (st .args .out .now)) (sym (f .refuse .ensures) ∙ e .enum-told .given .1) in
     rw (received-handled p s (st .args .flash .now) (st .args .address) (st .args .frame .now) (length (st .args .out .now)) none)
-    (answered (st .args .s) _ _ _ _ _ (j .handle .ensures)
-    (handled-number p s (st .args .address) (st .args .frame .now) (st .args .flash .now) _))
+    (handled-answered p s (st .args .address) (st .args .frame .now) (st .args .flash .now) _ (st .args .s) _ _ _ _ (j .handle .ensures))
 
 pub receive-spec : {M : Type 1} → statement M
 receive-spec =

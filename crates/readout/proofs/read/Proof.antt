@@ -6,7 +6,7 @@ use Rattle.answer.proofs.AnsweredLaws.{answered}
 use Rattle.refusal.proofs.Laws.{check-passed, check-refused}
 use Rattle.profile.specs.View.{profileOf}
 use Rattle.state.specs.View.{view}
-use Rattle.rules.specs.Board.{readAnswered, nothing}
+use Rattle.rules.specs.Board.{readAnswered}
 use Rattle.laws.proofs.StateLaws.{refusal-unrefused, used-take, length-used}
 use Rattle.rules.specs.Board.{readOut}
 use Rattle.rules.specs.Bytes.{overlay}
@@ -60,8 +60,9 @@ returns-2 c =
     let s = view (st .args .s) in
     let d = st .args .flash .now in
     let none = check-passed p s (length d) (length (st .args .out .now)) (sym (f .refuse .ensures) ∙ e .enum-told .given .1) in
-    rw (eq-eqb _ _ none, ← t .before .read-answered .ensures, not-true (t .before .read-answered .result) (t .if1 .taken))
-    (answered (st .args .s) _ _ _ _ (nothing s d) (c .no-reply .ensures d (st .args .out .now)) (omega arith))
+    rw (eq-eqb _ _ none, ← t .before .read-answered .ensures, not-true (t .before .read-answered .result) (t .if1 .taken),
+      c .no-reply .ensures)
+    (record { called = refl; untouched = λ two. refl })
 
 -- none of 2 to 5 applies where the last reply is handed out, and its buffer is whole
 none : (c : tie.After-store-arg)
