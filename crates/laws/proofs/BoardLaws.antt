@@ -147,8 +147,11 @@ module _ (p : Profile) (s : State) (a : ℕ) (f d : List ℕ) where
   numbered-ignored (Ignored reason) h = refl
   numbered-ignored BadTransfer h = absurd (omega arith)
   numbered-ignored BadSum h = absurd (omega arith)
-  numbered-ignored Command h = absurd (omega (arith, finishedCall-number (p .bus) (destination (p .bus) a f)
-      (executed p s (commandOf (p .bus) f) (argumentsOf (p .bus) f) d)))
+  numbered-ignored Command h = absurd (omega (
+    arith,
+    finishedCall-number (p .bus) (destination (p .bus) a f)
+        (executed p s (commandOf (p .bus) f) (argumentsOf (p .bus) f) d),
+  ))
 
   -- so a number of 2 or above leaves state and flash untouched
   pub handled-untouched : (v : Verdict) → 2 ≤ handled p s a f d v .number → handled p s a f d v ≡ refused (handled p s a f d v .number) s d

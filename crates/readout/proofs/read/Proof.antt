@@ -60,8 +60,12 @@ returns-2 c =
     let s = view (st .args .s) in
     let d = st .args .flash .now in
     let none = check-passed p s (length d) (length (st .args .out .now)) (sym (f .refuse .ensures) ∙ e .enum-told .given .1) in
-    rw (eq-eqb _ _ none, ← t .before .read-answered .ensures, not-true (t .before .read-answered .result) (t .if1 .taken),
-      c .no-reply .ensures)
+    rw (
+      eq-eqb _ _ none,
+      ← t .before .read-answered .ensures,
+      not-true (t .before .read-answered .result) (t .if1 .taken),
+      c .no-reply .ensures,
+    )
     (record { called = refl; untouched = λ two. refl })
 
 -- none of 2 to 5 applies where the last reply is handed out, and its buffer is whole
