@@ -15,14 +15,14 @@ use Rattle.rules.specs.declared.kinds.Verdict.the-variants.{Reset, ResetAddress
 use Rattle.rules.specs.Profile.{Profile}
 use Rattle.rules.specs.State.{State}
 use Rattle.rules.specs.CheckSums.{sumRight}
-use Rattle.rules.specs.Frames.{shortestRequest, destination, commandOf, argumentsOf, numberAt, framing, verdict, isCommand}
+use Rattle.rules.specs.Frames.{shortestRequest, destination, commandOf, argumentsOf, numberAt, framing, verdict, isCommand, isGeneral}
+use Rattle.rules.specs.Frames.{resetFrame}
 use Rattle.rules.specs.Responses.{Reply, replying, ok, invalidArguments}
-use Rattle.rules.specs.Commands.{accepted, written, readable, shown, performed, executed, tabled}
-use Rattle.rules.specs.Board.{finishedCall, handled}
+use Rattle.rules.specs.Commands.{accepted, written, finished, readable, shown, performed, executed, tabled}
+use Rattle.rules.specs.Board.{nothing, finishedCall, handled}
 use Rattle.laws.proofs.TestLaws.{by-test, &&-true}
 use Rattle.laws.proofs.VerdictLaws.{Framed, framing-cases, verdict-cases, framing-framed}
-use Rattle.demands.specs.Past.{wellFramed}
-use Rattle.demands.proofs.PastLaws.{pastOf}
+use Rattle.demands.specs.Past.{pastOf, wellFramed}
 
 isCommand-true : (v : Verdict) → isCommand v ≡ true → v ≡ Command
 isCommand-true Reset e = absurd (false≢true e)
@@ -95,6 +95,17 @@ module _ (p : Profile) (s : State) (args d : List ℕ) where
       → executed p s 0x08 args d ≡ replying s d ok (take (getD args 2 0) (drop (p .offset + numberAt args 0) d))
   unfolding executed performed tabled shown
   read-replying three e = rw (three, e)
+
+  pub finalize-finished : args ≡ [] → executed p s 0x07 args d ≡ finished p s d
+  unfolding executed performed tabled
+  finalize-finished e = rw e
+
+-- while running all but the reset is ignored
+pub handled-running : (p : Profile) (s : State) (a : ℕ) (f d : List ℕ) → s .running ≡ true
+    → isGeneral (p .bus) a f (resetFrame (p .bus)) ≡ false
+    → handled p s a f d (verdict (p .bus) (p .longest) (s .running) (s .address) a f) ≡ nothing s d
+unfolding handled verdict
+handled-running p s a f d running other = rw (other, running)
 
 -- on RS485 a damaged frame is dropped
 pub damaged-dropped : (p : Profile) (s : State) (a : ℕ) (f d : List ℕ) → p .bus ≡ Rs485 → sumRight Rs485 f ≡ false

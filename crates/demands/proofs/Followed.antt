@@ -22,8 +22,8 @@ use Rattle.laws.proofs.UploadLaws.{next-takenAll, next-finalized}
 use Rattle.laws.proofs.CommandLaws.{next-restarted, executed-cases}
 use Rattle.ledger.specs.Ledger.{writeAddress, writeData}
 use Rattle.ledger.proofs.FrameReading.{write-address, write-data}
-use Rattle.demands.specs.Past.{wellFramed, afterFrame}
-use Rattle.demands.proofs.PastLaws.{pastOf, pastOf-withReply, after-silence, after-reply, after-address, after-write}
+use Rattle.demands.specs.Past.{pastOf, wellFramed, afterFrame}
+use Rattle.demands.proofs.PastLaws.{pastOf-withReply, after-silence, after-reply, after-address, after-write}
 
 -- the tracker fed with what a call answers shows what the call leaves
 abbrev pub Follows : Profile → State → ℕ → List ℕ → Called → Type 0

@@ -36,7 +36,7 @@ both : (b : Bool) → b ≡ true → not b ≡ true → ⊥
 both true e n = true≢false (sym n)
 both false e n = true≢false (sym e)
 
-foreign-ignored : (p : Profile) (s : State) (a : ℕ) (f : List ℕ) → foreign p s a f ≡ true → Ignored p s a f
+foreign-ignored : (p : Profile) (s : State) (a : ℕ) (f : List ℕ) → foreign p (s .address) a f ≡ true → Ignored p s a f
 foreign-ignored p s a f e =
     let parts =
     &&-true (not (addressed (p .bus) (s .address) (destination (p .bus) a f))) (not (eqb (destination (p .bus) a f) 0)) e in

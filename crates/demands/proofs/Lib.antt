@@ -3,5 +3,7 @@ pub mod Ignored
 pub mod PastLaws
 pub mod Followed
 pub mod Received
+pub mod LastReply
 pub mod Answered
 pub mod AllRight
+pub mod Demand1

@@ -19,11 +19,7 @@ use Rattle.rules.specs.Board.{withReply}
 use Rattle.laws.proofs.BoardLaws.{withReply-kept}
 use Rattle.ledger.specs.Ledger.{offsets, answeredOk, writeAddress, writeData}
 use Rattle.ledger.proofs.FrameReading.{answered-reply}
-use Rattle.demands.specs.Past.{Past, wellFramed, afterFrame}
-
--- what the past should tell of a state
-abbrev pub pastOf : State → Past
-pastOf s = record { running = s .running; address = s .address; next = s .upload .next }
+use Rattle.demands.specs.Past.{Past, pastOf, wellFramed, afterFrame}
 
 -- the last reply is not seen
 pub pastOf-withReply : (bus : Bus) (s : State) (r : List ℕ) → pastOf (withReply bus s r) ≡ pastOf s

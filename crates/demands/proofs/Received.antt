@@ -19,8 +19,8 @@ use Rattle.rules.specs.Board.{nothing, handled, received}
 use Rattle.laws.proofs.TestLaws.{by-test}
 use Rattle.laws.proofs.VerdictLaws.{framing-cases, verdict-cases}
 use Rattle.laws.proofs.BoardLaws.{received-handled, received-refused, refusal-least}
-use Rattle.demands.specs.Past.{wellFramed, afterFrame}
-use Rattle.demands.proofs.PastLaws.{pastOf, after-silence, after-refusal}
+use Rattle.demands.specs.Past.{pastOf, wellFramed, afterFrame}
+use Rattle.demands.proofs.PastLaws.{after-silence, after-refusal}
 use Rattle.demands.proofs.Followed.{Follows, refused-followed, executed-followed}
 
 module _ (p : Profile) (s : State) (a : ℕ) (f d : List ℕ) where

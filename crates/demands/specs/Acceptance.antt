@@ -1,18 +1,21 @@
--- Demand 2 over any board: what a well-framed request gets, by the past alone.
+-- Demand 2 over any board: what a call gets, by what is known before it.
 use mathlib.Core.Path.{_≡_}
-use mathlib.Core.Bool.{Bool, true, false, _&&_}
+use mathlib.Core.Bool.{Bool, true, false, not, _&&_}
 use mathlib.Core.List.{List, [], _∷_}
 use Prim.Native.Nat.{ℕ, _+_, _-_, _≤_}
-use lib.Dec.{leb}
+use lib.Dec.{eqb, leb}
 use lib.ListN.{length, take, drop, getD}
-use Rattle.rules.specs.declared.kinds.Bus.the-variants.{Rs485}
+use Rattle.rules.specs.declared.kinds.Bus.{Bus}
+use Rattle.rules.specs.declared.kinds.Bus.the-variants.{I2c, Rs485}
 use Rattle.rules.specs.Profile.{Profile, inRange}
+use Rattle.rules.specs.State.{State, wellFormed}
 use Rattle.rules.specs.CheckSums.{sumRight}
-use Rattle.rules.specs.Frames.{reply, destination, commandOf, argumentsOf, numberAt}
+use Rattle.rules.specs.Frames.{reply, destination, addressed, isGeneral, resetFrame, commandOf, argumentsOf, numberAt, twoBytes}
 use Rattle.rules.specs.Responses.{ok, invalidArguments}
 use Rattle.rules.specs.Commands.{accepted, readable}
-use Rattle.ledger.specs.Calls.{Call, Frame, Read, Board, Step, traced}
-use Rattle.demands.specs.Past.{Past, initialPast, wellFramed, after}
+use Rattle.ledger.specs.Ledger.{Ledger}
+use Rattle.ledger.specs.Calls.{Call, Frame, Read, Board, Step, calls, ruled, stepped, traced}
+use Rattle.demands.specs.Past.{Past, Known, initially, knownOf, wellFramed, after}
 
 -- a write in order and in range: its two-byte address is 0 or next, and its data don't run past S
 abbrev pub inOrder : Profile → Past → List ℕ → Bool
@@ -25,38 +28,71 @@ pub record Answers (p : Profile) (s : Step) (a : ℕ) (f : List ℕ) (status : �
   pub number-is : s .number ≡ 0
   pub reply-is : s .reply ≡ reply (p .bus) (destination (p .bus) a f) status results
 
--- a frame that came after the past, over the flash d and the count c before it, into a reply buffer of n bytes
-pub record FrameRight (p : Profile) (past : Past) (d : List ℕ) (c : ℕ) (s : Step) (a : ℕ) (f : List ℕ) (n : ℕ) : Type 0 where
+-- flash and count are as they were known before
+pub record Unchanged (k : Known) (s : Step) : Type 0 where
+  pub flash-is : s .flash ≡ k .flash
+  pub count-is : s .count ≡ k .count
+
+-- a frame into a reply buffer of n bytes
+pub record FrameRight (p : Profile) (k : Known) (s : Step) (a : ℕ) (f : List ℕ) (n : ℕ) : Type 0 where
   -- every well-framed write to this board in order and in range is accepted
   pub accepts :
-      p .longest ≤ n → wellFramed p past a f ≡ true → commandOf (p .bus) f ≡ 0x06 → inOrder p past f ≡ true → Answers p s a f ok []
+      p .longest ≤ n → wellFramed p (k .past) a f ≡ true → commandOf (p .bus) f ≡ 0x06 → inOrder p (k .past) f ≡ true → Answers p s a f ok []
   -- its other well-framed ones are refused by name, and leave the upload as it was
   pub refuses :
-      p .longest ≤ n → wellFramed p past a f ≡ true → commandOf (p .bus) f ≡ 0x06 → inOrder p past f ≡ false
-      → Answers p s a f invalidArguments [] × (s .flash ≡ d) × (s .count ≡ c)
+      p .longest ≤ n → wellFramed p (k .past) a f ≡ true → commandOf (p .bus) f ≡ 0x06 → inOrder p (k .past) f ≡ false
+      → Answers p s a f invalidArguments [] × Unchanged k s
+  -- finalize: OK, with the count in two results
+  pub finalizes :
+      p .longest ≤ n → wellFramed p (k .past) a f ≡ true → commandOf (p .bus) f ≡ 0x07 → argumentsOf (p .bus) f ≡ []
+      → Answers p s a f ok (twoBytes (s .count))
   -- version: results 2, 2
   pub versions :
-      p .longest ≤ n → wellFramed p past a f ≡ true → commandOf (p .bus) f ≡ 0x00 → argumentsOf (p .bus) f ≡ []
+      p .longest ≤ n → wellFramed p (k .past) a f ≡ true → commandOf (p .bus) f ≡ 0x00 → argumentsOf (p .bus) f ≡ []
       → Answers p s a f ok (2 ∷ 2 ∷ [])
   -- read shows flash
   pub reads :
-      p .longest ≤ n → wellFramed p past a f ≡ true → commandOf (p .bus) f ≡ 0x08 → length (argumentsOf (p .bus) f) ≡ 3
+      p .longest ≤ n → wellFramed p (k .past) a f ≡ true → commandOf (p .bus) f ≡ 0x08 → length (argumentsOf (p .bus) f) ≡ 3
       → readable p (numberAt (argumentsOf (p .bus) f) 0) (getD (argumentsOf (p .bus) f) 2 0) ≡ true
-      → Answers p s a f ok (take (getD (argumentsOf (p .bus) f) 2 0) (drop (p .offset + numberAt (argumentsOf (p .bus) f) 0) d))
+      → Answers p s a f ok (take (getD (argumentsOf (p .bus) f) 2 0) (drop (p .offset + numberAt (argumentsOf (p .bus) f) 0) (k .flash)))
   -- on RS485 a damaged frame gets no reply
   pub silence : p .longest ≤ n → p .bus ≡ Rs485 → sumRight Rs485 f ≡ false → s .number ≡ 1
+  -- after start every frame but the reset answers 1 and changes nothing
+  pub started :
+      p .longest ≤ n → k .past .running ≡ true → isGeneral (p .bus) a f (resetFrame (p .bus)) ≡ false → (s .number ≡ 1) × Unchanged k s
 
-abbrev pub CallRight : Profile → Past → List ℕ → ℕ → Step → Call → Type 0
-CallRight p past d c s (Frame a f n) = FrameRight p past d c s a f n
-CallRight p past d c s (Read a n) = Unit
+-- an I²C read at an address of this board, not running, that has a last reply
+abbrev pub lastReadable : Bus → Known → ℕ → Bool
+lastReadable I2c k a = not (k .past .running) && (addressed I2c (k .past .address) a && not (eqb (length (k .last)) 0))
+lastReadable Rs485 k a = false
+
+-- a read into a buffer of n bytes
+pub record ReadRight (p : Profile) (k : Known) (s : Step) (a n : ℕ) : Type 0 where
+  -- it hands out the last reply
+  pub hands-out : p .longest ≤ n → lastReadable (p .bus) k a ≡ true → (s .number ≡ 0) × (s .reply ≡ k .last)
+  -- in any other case it answers 1
+  pub silence : p .longest ≤ n → lastReadable (p .bus) k a ≡ false → s .number ≡ 1
+  -- and it changes nothing
+  pub keeps : Unchanged k s
+
+abbrev pub CallRight : Profile → Known → Step → Call → Type 0
+CallRight p k s (Frame a f n) = FrameRight p k s a f n
+CallRight p k s (Read a n) = ReadRight p k s a n
 
 -- every step of a list is right after the steps before it
-abbrev pub AllRight : Profile → Past → List ℕ → ℕ → List Step → Type 0
-AllRight p past d c [] = Unit
-AllRight p past d c (s ∷ ss) = CallRight p past d c s (s .call) × AllRight p (after p past s) (s .flash) (s .count) ss
+abbrev pub AllRight : Profile → Known → List Step → Type 0
+AllRight p k [] = Unit
+AllRight p k (s ∷ ss) = CallRight p k s (s .call) × AllRight p (after p k s) ss
 
 -- for every list of calls from the fresh board, where numbers 2 and 3 do not apply (and 5 not to the call itself)
 abbrev pub Demand2 : Board → Type 0
 Demand2 B =
     (p : Profile) (d : List ℕ) (cs : List Call) → inRange p ≡ true → p .offset + p .size ≤ length d
-    → AllRight p initialPast d (B .count (B .fresh)) (traced B p d cs)
+    → AllRight p (initially d (B .count (B .fresh))) (traced B p d cs)
+
+-- the same of one call on any well-formed state, however it came about
+abbrev pub StateRight : Type 0
+StateRight =
+    (p : Profile) (s : State) (d : List ℕ) (k : Ledger) (c : Call) → inRange p ≡ true → wellFormed p s ≡ true
+    → p .offset + p .size ≤ length d
+    → CallRight p (knownOf s d) (stepped ruled p k c (calls p s d c)) c

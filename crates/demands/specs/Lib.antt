@@ -2,3 +2,4 @@
 pub mod Past
 pub mod Acceptance
 pub mod Untouched
+pub mod Replies

@@ -1,7 +1,8 @@
 // Demands 1 and 2, stated where a reader meets them. The functions do nothing.
 ghost use Rattle.ledger.specs.Calls.{ruled};
-ghost use Rattle.demands.specs.Acceptance.{Demand2};
-ghost use Rattle.demands.specs.Untouched.{RefusedUntouched, IgnoredFrames};
+ghost use Rattle.demands.specs.Acceptance.{Demand2, StateRight};
+ghost use Rattle.demands.specs.Untouched.{RefusedUntouched, IgnoredFrames, Demand1};
+ghost use Rattle.demands.specs.Replies.{EveryReply};
 
 // Demand 1: a call refused by number 2 or above hands back the given state, untouched flash and buffers.
 pub fn refused_untouched()
@@ -13,7 +14,22 @@ pub fn ignored_frames()
     ensures { λ _. ⌜ IgnoredFrames ⌝ }
 {}
 
-// Demand 2: every well-framed write in order and in range is accepted, the others are refused by name.
+// Demand 1 as a claim over any board, of the rules': a refused call, a foreign or a damaged frame leaves flash and count.
+pub fn untouched()
+    ensures { λ _. ⌜ Demand1 ruled ⌝ }
+{}
+
+// Demand 2: every reply byte.
+pub fn every_reply()
+    ensures { λ _. ⌜ EveryReply ruled ⌝ }
+{}
+
+// Demand 2 in any well-formed state, with no list before it.
+pub fn state_right()
+    ensures { λ _. ⌜ StateRight ⌝ }
+{}
+
+// Demand 2: every well-framed write in order and in range is accepted, the others are refused by name; and what other calls get.
 pub fn acceptance()
     ensures { λ _. ⌜ Demand2 ruled ⌝ }
 {}

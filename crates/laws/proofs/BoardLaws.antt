@@ -176,3 +176,8 @@ module _ (p : Profile) (s : State) (a : ℕ) (d : List ℕ) (n : ℕ) where
   unfolding readOut
   readOut-state =
       by-test (eqb (refusal p s (length d) n) 0) (λ e. by-test (readAnswered (p .bus) s a) (λ r. rw (e, r)) (λ r. rw (e, r))) (λ e. rw e)
+
+  pub readOut-flash : readOut p s a d n .flash ≡ d
+  unfolding readOut
+  readOut-flash =
+      by-test (eqb (refusal p s (length d) n) 0) (λ e. by-test (readAnswered (p .bus) s a) (λ r. rw (e, r)) (λ r. rw (e, r))) (λ e. rw e)
