@@ -9,7 +9,7 @@ use Rattle.rules.specs.Profile.{inRange}
 use Rattle.rules.specs.Numbers.{number}
 use Rattle.ledger.specs.Calls.{ruled, traced}
 use Rattle.ledger.specs.Claim.{Holds}
-use Rattle.demands.specs.Past.{initialPast}
+use Rattle.demands.specs.Past.{initially}
 use Rattle.demands.specs.Acceptance.{AllRight}
 use Rattle.demands.specs.Untouched.{foreign, damaged}
 use Rattle.state.specs.declared.State.{State}
@@ -25,7 +25,7 @@ Refused s d h = 2 ≤ number (h .answer .outcome) → (h .answer .state ≡ s) �
 -- a foreign frame, or one with a wrong check sum: flash and upload as they were
 abbrev pub Ignored : Profile → State → List ℕ → Happened → CallInput → Type 0
 Ignored p s d h (Receive a f) =
-    (foreign (profileOf p) (view s) a f ≡ true) ⊎ (damaged (profileOf p) a f ≡ true)
+    (foreign (profileOf p) (s .address) a f ≡ true) ⊎ (damaged (profileOf p) a f ≡ true)
     → (h .flash ≡ d) × (uploadOf (h .answer .state .upload) ≡ uploadOf (s .upload))
 Ignored p s d h (Read a) = Unit
 
@@ -41,7 +41,7 @@ pub record Met (p : Profile) (s : State) (d : List ℕ) (hs : List Happened) : T
   pub demand1 : AllKept p s d hs
   -- where numbers 2 and 3 do not apply
   pub demand2 : inRange (profileOf p) ≡ true → p .offset + p .size ≤ length d
-      → AllRight (profileOf p) initialPast d (s .upload .count) (stepsOf p d hs)
+      → AllRight (profileOf p) (initially d (s .upload .count)) (stepsOf p d hs)
   pub demand3 : Holds (profileOf p) (stepsOf p d hs)
 
 -- every list of calls of the code from the fresh board with any flash, under any one profile

@@ -1,3 +1,4 @@
+pub mod FirstAnswer
 pub mod Computing
 pub mod Cases
 pub mod VariationLaws

@@ -1,7 +1,7 @@
 -- The board of the rules with one part exchanged: the judgement on a frame, the rule of a command, or the commit.
 -- With the rules' own parts it is the board of the rules (`varied_right`).
 use mathlib.Core.Path.{_≡_}
-use mathlib.Core.Bool.{Bool, cond, _&&_}
+use mathlib.Core.Bool.{Bool, false, cond, _&&_}
 use mathlib.Core.List.{List, [], _∷_, _++_}
 use Prim.Native.Nat.{ℕ, _+_, _%_}
 use lib.Dec.{eqb}
@@ -40,6 +40,11 @@ handlingBy judge p s d (Read a n) = calls p s d (Read a n)
 -- a board that keeps a state and shows the state's count
 abbrev pub boardBy : (Profile → State → List ℕ → Call → Reaction State) → Board
 boardBy call = record { Kept = State; fresh = fresh; count = λ s. s .upload .count; call = call }
+
+-- the call is a frame with this command
+abbrev pub asks : Profile → Call → ℕ → Bool
+asks p (Frame a f n) code = eqb (commandOf (p .bus) f) code
+asks p (Read a n) code = false
 
 -- another rule for the well-framed commands
 abbrev pub executing : Rule → Handling

@@ -1,20 +1,20 @@
 -- Boards that are right but for one error, each with the sentence of document 01 that names it.
 -- Which demand refuses each: src/lib.rt. On which calls: proofs/.
-use mathlib.Core.Bool.{Bool, true, false, cond, not, _&&_}
+use mathlib.Core.Bool.{Bool, true, false, cond, not, _&&_, _||_}
 use mathlib.Core.List.{List, [], _∷_, _++_}
 use Prim.Native.Nat.{ℕ, suc, _+_, _-_, _%_}
 use lib.Dec.{eqb, ltb}
-use lib.ListN.{length, take, replicate}
+use lib.ListN.{length, take, getD, replicate}
 use Rattle.rules.specs.Profile.{Profile}
 use Rattle.rules.specs.State.{State, Upload, withRunning, withUpload}
 use Rattle.rules.specs.CheckSums.{sumRight}
-use Rattle.rules.specs.Frames.{destination, ignored, numberAt, twoBytes}
+use Rattle.rules.specs.Frames.{destination, ignored, isCommand, commandOf, argumentsOf, numberAt, twoBytes}
 use Rattle.rules.specs.Commit.{Progress, committed, finalized}
-use Rattle.rules.specs.Responses.{Reply, Acted, ok, invalidArguments, invalidCrc, replying}
+use Rattle.rules.specs.Responses.{Reply, NoReply, Acted, ok, invalidArguments, invalidCrc, replying}
 use Rattle.rules.specs.Commands.{started, executed}
 use Rattle.rules.specs.Board.{finishedCall, handled}
-use Rattle.ledger.specs.Calls.{Call, Reaction, Board, calls}
-use Rattle.wrongboards.specs.Variations.{Handling, Rule, Commit, handlingBy, boardBy, ruledBy, committedBy}
+use Rattle.ledger.specs.Calls.{Call, Frame, Read, Reaction, Board, calls}
+use Rattle.wrongboards.specs.Variations.{Handling, Rule, Commit, handlingBy, boardBy, ruledBy, committedBy, asks}
 
 -- Document 01, "Programs to try"
 
@@ -109,3 +109,55 @@ finalizesOnStart =
     ruledBy (λ p s code args d.
     let g : Progress = finalized p (record { upload = s .upload; flash = d }) in
     cond (eqb code 0x05 && eqb (length args) 0) (started (withUpload s (g .upload)) (g .flash)) (executed p s code args d))
+
+-- Boards that once met all demands as they were stated
+
+-- one that refuses every finalize
+abbrev pub refusesFinalizes : Board
+refusesFinalizes = ruledBy (λ p s code args d. cond (eqb code 0x07) (replying s d invalidArguments []) (executed p s code args d))
+
+-- one whose answers to a command are changed, byte by byte
+abbrev pub changesReply : ℕ → (List ℕ → List ℕ) → Board
+changesReply code change =
+    boardBy (λ p s d c.
+    let r : Reaction State = calls p s d c in
+    record { number = r .number; reply = cond (asks p c code) (change (r .reply)) (r .reply); state = r .state; flash = r .flash })
+
+-- one whose I²C reads always answer 1
+abbrev pub silentReads : Profile → State → List ℕ → Call → Reaction State
+silentReads p s d (Frame a f n) = calls p s d (Frame a f n)
+silentReads p s d (Read a n) = record { number = 1; reply = []; state = s; flash = d }
+
+abbrev pub readsNothing : Board
+readsNothing = boardBy silentReads
+
+-- one that obeys foreign writes and finalizes: a frame that is to be ignored is executed if its check sum is right
+abbrev pub obeysForeign : Board
+obeysForeign =
+    boardBy (handlingBy (λ p s a f d v.
+    cond (ignored v && sumRight (p .bus) f)
+    (finishedCall (p .bus) (destination (p .bus) a f) (executed p s (commandOf (p .bus) f) (argumentsOf (p .bus) f) d))
+    (handled p s a f d v)))
+
+-- one that ignores start
+abbrev pub ignoresStart : Board
+ignoresStart =
+    ruledBy (λ p s code args d.
+    cond (eqb code 0x05 && eqb (length args) 0) (record { response = NoReply; state = s; flash = d }) (executed p s code args d))
+
+-- one that takes an address from set address with a foreign type
+abbrev pub takesForeignType : Board
+takesForeignType =
+    ruledBy (λ p s code args d.
+    cond (eqb code 0x01 && eqb (length args) 2) (executed p s code (getD args 0 0 ∷ p .hardware ∷ []) d) (executed p s code args d))
+
+-- one that never sends INVALID_CRC or INVALID_TRANSFER on I²C
+abbrev pub silentFaults : Board
+silentFaults =
+    boardBy (handlingBy (λ p s a f d v.
+    cond (ignored v || isCommand v) (handled p s a f d v)
+    (record { number = 1; reply = []; state = handled p s a f d v .state; flash = d })))
+
+-- one with a wrong answer to a command: OK and one result of 0xEE
+abbrev pub answersWrong : ℕ → Board
+answersWrong asked = ruledBy (λ p s code args d. cond (eqb code asked) (replying s d ok (0xEE ∷ [])) (executed p s code args d))

@@ -1,12 +1,16 @@
 // Boards that are right but for one error, and the demand that refuses each. The functions do nothing.
 ghost use mathlib.Core.List.{List};
 ghost use Prim.Native.Nat.{ℕ};
+ghost use lib.ListN.{set};
 ghost use Rattle.ledger.specs.Claim.{Demand3};
 ghost use Rattle.demands.specs.Acceptance.{Demand2};
+ghost use Rattle.demands.specs.Untouched.{Demand1};
+ghost use Rattle.demands.specs.Replies.{EveryReply};
 ghost use Rattle.wrongboards.specs.Variations.{VariedRight};
 ghost use Rattle.wrongboards.specs.WrongBoards.{refusesWrites, okToAll, runsAfterWrite, keepsFlash, firstPageOnly, inventsCount};
 ghost use Rattle.wrongboards.specs.WrongBoards.{fixedReply, padsLastPage, takesHalf, invalidCrcSent, countsUnchanged};
-ghost use Rattle.wrongboards.specs.WrongBoards.{finalizesOnStart};
+ghost use Rattle.wrongboards.specs.WrongBoards.{finalizesOnStart, refusesFinalizes, changesReply, readsNothing, obeysForeign};
+ghost use Rattle.wrongboards.specs.WrongBoards.{ignoresStart, takesForeignType, silentFaults, answersWrong};
 
 // The variations that the wrong boards are made by are right themselves: with the rules' own parts they are the board of the rules.
 pub fn varied_right()
@@ -71,4 +75,45 @@ pub fn counts_unchanged()
 // Finalizing on start: demand 3, flash equals the ledger's copy.
 pub fn finalizes_on_start()
     ensures { λ _. ⌜ (Demand3 finalizesOnStart → ⊥) ⌝ }
+{}
+
+// A board that refuses every finalize: demand 2, a finalize is answered OK with two results.
+pub fn refuses_finalizes()
+    ensures { λ _. ⌜ (Demand2 refusesFinalizes → ⊥) ⌝ }
+{}
+
+// A finalize reply with a wrong length byte, or with a wrong check sum: the same.
+pub fn wrong_finalize_reply()
+    ensures { λ _. ⌜ (Demand2 (changesReply 0x07 (λ r. set r 1 3)) → ⊥) × (Demand2 (changesReply 0x07 (λ r. set r 4 0)) → ⊥) ⌝ }
+{}
+
+// I²C reads that always answer 1: demand 2, a read hands out the last reply.
+pub fn reads_nothing()
+    ensures { λ _. ⌜ (Demand2 readsNothing → ⊥) ⌝ }
+{}
+
+// Foreign writes and finalizes that are obeyed: demand 1, a foreign frame leaves flash as it was.
+pub fn obeys_foreign()
+    ensures { λ _. ⌜ (Demand1 obeysForeign → ⊥) ⌝ }
+{}
+
+// A start that is ignored: demand 2, after it every frame but the reset answers 1.
+pub fn ignores_start()
+    ensures { λ _. ⌜ (Demand2 ignoresStart → ⊥) ⌝ }
+{}
+
+// Set address with a foreign type that is taken: demand 2, every reply byte.
+pub fn takes_foreign_type()
+    ensures { λ _. ⌜ (EveryReply takesForeignType → ⊥) ⌝ }
+{}
+
+// No INVALID_CRC and no INVALID_TRANSFER on I²C: the same.
+pub fn silent_faults()
+    ensures { λ _. ⌜ (EveryReply silentFaults → ⊥) ⌝ }
+{}
+
+// Wrong answers to hardware info, serial, revision and longest frame: the same.
+pub fn wrong_answers()
+    ensures { λ _. ⌜ (EveryReply (answersWrong 0x03) → ⊥) × (EveryReply (answersWrong 0x04) → ⊥) × (EveryReply (answersWrong 0x09) → ⊥)
+        × (EveryReply (answersWrong 0x0c) → ⊥) ⌝ }
 {}

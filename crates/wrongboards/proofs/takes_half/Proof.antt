@@ -22,7 +22,7 @@ refused-2 : Demand2 takesHalf → ⊥
 unfolding computing past
 refused-2 h =
     let right = h (small I2c 64) (zeros 64) past refl room in
-    let kept : _≡_ {A = ℕ} 7 0 = ap (λ (d : List ℕ). getD d 0 0) (right .0 .refuses buffer refl refl refl .1) in
+    let kept : _≡_ {A = ℕ} 7 0 = ap (λ (d : List ℕ). getD d 0 0) (right .0 .refuses buffer refl refl refl .1 .flash-is) in
     omega arith
 
 refused-3 : Demand3 takesHalf → ⊥
