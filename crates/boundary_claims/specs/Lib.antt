@@ -1,0 +1,3 @@
+-- Calls of the C boundary one after the other, and the demands of them.
+pub mod Calls
+pub mod Met

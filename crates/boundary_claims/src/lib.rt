@@ -1,0 +1,8 @@
+// The demands of the C boundary: of a list of calls of `childbus_receive` and `childbus_read` after `childbus_fresh`, each with the state
+// bytes and the flash that the last one left. The functions do nothing.
+ghost use Rattle.boundary_claims.specs.Met.{BoundaryMeetsDemands};
+
+// For any profile bytes, any flash, any list of such calls, with any addresses, frames and output buffers: demands 1, 2 and 3.
+pub fn boundary_meets_demands()
+    ensures { λ _. ⌜ BoundaryMeetsDemands ⌝ }
+{}
