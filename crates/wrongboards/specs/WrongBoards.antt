@@ -161,3 +161,20 @@ silentFaults =
 -- one with a wrong answer to a command: OK and one result of 0xEE
 abbrev pub answersWrong : ℕ → Board
 answersWrong asked = ruledBy (λ p s code args d. cond (eqb code asked) (replying s d ok (0xEE ∷ [])) (executed p s code args d))
+
+-- one whose refused calls erase flash
+abbrev pub refusedErases : Board
+refusedErases =
+    boardBy (λ p s d c.
+    let r : Reaction State = calls p s d c in
+    record { number = r .number; reply = r .reply; state = r .state; flash = cond (ltb 1 (r .number)) [] (r .flash) })
+
+-- one whose reads erase flash
+abbrev pub erasingReads : Profile → State → List ℕ → Call → Reaction State
+erasingReads p s d (Frame a f n) = calls p s d (Frame a f n)
+erasingReads p s d (Read a n) =
+    let r : Reaction State = calls p s d (Read a n) in
+    record { number = r .number; reply = r .reply; state = r .state; flash = [] }
+
+abbrev pub readsErase : Board
+readsErase = boardBy erasingReads

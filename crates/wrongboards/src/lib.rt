@@ -10,7 +10,7 @@ ghost use Rattle.wrongboards.specs.Variations.{VariedRight};
 ghost use Rattle.wrongboards.specs.WrongBoards.{refusesWrites, okToAll, runsAfterWrite, keepsFlash, firstPageOnly, inventsCount};
 ghost use Rattle.wrongboards.specs.WrongBoards.{fixedReply, padsLastPage, takesHalf, invalidCrcSent, countsUnchanged};
 ghost use Rattle.wrongboards.specs.WrongBoards.{finalizesOnStart, refusesFinalizes, changesReply, readsNothing, obeysForeign};
-ghost use Rattle.wrongboards.specs.WrongBoards.{ignoresStart, takesForeignType, silentFaults, answersWrong};
+ghost use Rattle.wrongboards.specs.WrongBoards.{ignoresStart, takesForeignType, silentFaults, answersWrong, refusedErases, readsErase};
 
 // The variations that the wrong boards are made by are right themselves: with the rules' own parts they are the board of the rules.
 pub fn varied_right()
@@ -116,4 +116,14 @@ pub fn silent_faults()
 pub fn wrong_answers()
     ensures { λ _. ⌜ (EveryReply (answersWrong 0x03) → ⊥) × (EveryReply (answersWrong 0x04) → ⊥) × (EveryReply (answersWrong 0x09) → ⊥)
         × (EveryReply (answersWrong 0x0c) → ⊥) ⌝ }
+{}
+
+// Flash erased by a refused call: demand 1, it leaves flash as it was.
+pub fn refused_erases()
+    ensures { λ _. ⌜ (Demand1 refusedErases → ⊥) ⌝ }
+{}
+
+// Flash erased by a read: demand 2, a read changes nothing.
+pub fn reads_erase()
+    ensures { λ _. ⌜ (Demand2 readsErase → ⊥) ⌝ }
 {}
