@@ -19,18 +19,19 @@ use Rattle.rules.specs.Frames.{shortestReply, reply, addressed}
 use Rattle.rules.specs.Responses.{Response, Reply, NoReply, Acted}
 use Rattle.rules.specs.Commands.{addressTaken, setAddress, performed, served}
 use Rattle.rules.specs.Board.{Called, withReply, readAnswered, readOut}
+use Rattle.rules.specs.Master.{Instruction, Commands, AddressReset, BoardReset}
 use Rattle.rules.specs.Master.{resultsMissing, decodedRead, resultsIn, resultBytes, whichRead, addressOver}
 use Rattle.laws.proofs.TestLaws.{by-test}
 use Rattle.laws.proofs.StateLaws.{Unrefused, refusal-unrefused, unrefused-refusal}
 use Rattle.laws.proofs.CommandLaws.{length-reply, setAddress-cases}
 use Rattle.laws.proofs.BoardLaws.{FormedCall, received-formed-call, withReply-kept}
 use Rattle.laws.proofs.FrameLaws.{Ends, decoded-reply, results-reply}
-use Rattle.roundtrip.specs.Sending.{Sending, Instruction, Commands, AddressReset, BoardReset, Given, AddressedBy, bus, frame, call}
+use Rattle.roundtrip.specs.Sending.{Sending, Given, AddressedBy, bus, frame, call}
 use Rattle.roundtrip.specs.Sending.{instruction}
 use Rattle.roundtrip.specs.Understood.{TakenAs, Understood}
 use Rattle.roundtrip.specs.ReadBack.{ReadsAs, TwoReads, addressedNext, ReadOut, ResponseRead, Replied, RepliesRead}
-use Rattle.roundtrip.proofs.Made.{Allowed}
-use Rattle.roundtrip.proofs.Requests.{AllowedBy, NewAddress, made-allowed, made-address, executed-performed, given-understood}
+use Rattle.laws.proofs.RequestLaws.{Allowed, AllowedBy}
+use Rattle.roundtrip.proofs.Requests.{NewAddress, made-allowed, made-address, executed-performed, given-understood}
 use Rattle.roundtrip.proofs.Responded.{Responding, Responded, Responds, executed-responds}
 
 -- a whole reply decodes
