@@ -86,6 +86,12 @@ commandWrong bus M destination code n =
     || (ltb M (shortestRequest bus + n)
     || (eqb destination 0 || addressOver bus destination))
 
+-- so for the command that an instruction has; the general calls have none
+abbrev pub instructionWrong : Bus → ℕ → ℕ → Instruction → Bool
+instructionWrong bus M destination (Commands code arguments) = commandWrong bus M destination code (length arguments)
+instructionWrong bus M destination AddressReset = false
+instructionWrong bus M destination BoardReset = false
+
 -- a new bus address over its range, a hardware type over 255
 abbrev pub setAddressWrong : Bus → ℕ → ℕ → Bool
 setAddressWrong bus address hardware = addressOver bus address || ltb 255 hardware
@@ -94,7 +100,7 @@ setAddressWrong bus address hardware = addressOver bus address || ltb 255 hardwa
 abbrev pub readWrong : Bus → ℕ → ℕ → ℕ → Bool
 readWrong bus M address n = flashAddressOver address || ltb (M - shortestReply bus) n
 
--- the numbers of each request, out of their ranges
+-- the numbers of each request out of range
 abbrev pub numbersWrong : Bus → ℕ → Request → Bool
 numbersWrong bus M (Plain code) = false
 numbersWrong bus M (SetAddress address hardware) = setAddressWrong bus address hardware
@@ -103,13 +109,7 @@ numbersWrong bus M (Read address n) = readWrong bus M address n
 numbersWrong bus M ResetAddress = false
 numbersWrong bus M Reset = false
 
--- the command of an instruction; the general calls are none
-abbrev pub instructionWrong : Bus → ℕ → ℕ → Instruction → Bool
-instructionWrong bus M destination (Commands code arguments) = commandWrong bus M destination code (length arguments)
-instructionWrong bus M destination AddressReset = false
-instructionWrong bus M destination BoardReset = false
-
--- 7: request argument out of range
+-- 7: request argument out of range: in the command that it asks for, or in its own numbers
 unfoldable pub argumentWrong : Bus → ℕ → Request → ℕ → List ℕ → Bool
 argumentWrong bus M r destination bytes = instructionWrong bus M destination (instructionOf r bytes) || numbersWrong bus M r
 
