@@ -11,7 +11,7 @@ use Rattle.laws.proofs.BytesLaws.{length-overlay}
 use Rattle.laws.proofs.CommitLaws.{appended, takenAll-append}
 use Rattle.laws.proofs.UploadLaws.{sub-mod, next-takenAll}
 use Rattle.state.specs.declared.Upload.{Upload}
-use Rattle.state.specs.View.{page}
+use Rattle.state.specs.View.{largestPage}
 use Rattle.state.proofs.Laws.{HeldFacts, upload-held}
 use Rattle.profile.specs.declared.Profile.{Profile}
 use Rattle.profile.specs.View.{profileOf}
@@ -22,16 +22,16 @@ use Rattle.commit.proofs.Laws.{committed-counted, kept-upload, ready-taken}
 -- u and d are what the first i bytes make of u₀ and d₀
 pub record Reached (p : Profile) (u₀ : Upload) (d₀ bytes : List ℕ) (i : ℕ) (u : Upload) (d : List ℕ) : Type 0 where
   pub reached-most : i ≤ length bytes
-  pub buffer : length (u .waiting) ≡ page
+  pub buffer : length (u .waiting) ≡ largestPage
   pub progress : progressOf u d ≡ takenAll (profileOf p) (progressOf u₀ d₀) (take i bytes)
   -- and the numbers that follow from these
   pub next-is : u .next ≡ u₀ .next + i
-  pub held : HeldFacts page (p .size) u
+  pub held : HeldFacts (profileOf p .page) (p .size) u
   pub flash-length : length d ≡ length d₀
 
 module _ {p : Profile} {u₀ : Upload} (d₀ : List ℕ) (ready : Ready p u₀ (length d₀)) (bytes : List ℕ)
     (fits : u₀ .next + length bytes ≤ p .size) where
-  pub reached : (i : ℕ) (u : Upload) {d : List ℕ} → i ≤ length bytes → length (u .waiting) ≡ page
+  pub reached : (i : ℕ) (u : Upload) {d : List ℕ} → i ≤ length bytes → length (u .waiting) ≡ largestPage
       → progressOf u d ≡ takenAll (profileOf p) (progressOf u₀ d₀) (take i bytes) → Reached p u₀ d₀ bytes i u d
   reached i u most buffer e =
       let n : length (take i bytes) ≡ i = length-take-le i bytes most in
@@ -42,12 +42,12 @@ module _ {p : Profile} {u₀ : Upload} (d₀ : List ℕ) (ready : Ready p u₀ (
         buffer = buffer;
         progress = e;
         next-is = rw n at next;
-        held = upload-held page (p .size) u (kept-upload p u e kept);
+        held = upload-held (profileOf p .page) (p .size) u (kept-upload p u e kept);
         flash-length = ap (λ (g : Progress). length (g .flash)) e ∙ kept .flash-length;
       }
 
   -- where the loop begins
-  pub reached-none : length (u₀ .waiting) ≡ page → Reached p u₀ d₀ bytes 0 u₀ d₀
+  pub reached-none : length (u₀ .waiting) ≡ largestPage → Reached p u₀ d₀ bytes 0 u₀ d₀
   unfolding takenAll
   reached-none buffer = reached 0 u₀ (omega arith) buffer refl
 
@@ -56,7 +56,7 @@ abbrev pub filled : Upload → ℕ → List ℕ → Upload
 filled u n ws = record { next = u .next + n; held = u .held + n; count = u .count; waiting = ws }
 
 module _ {p : Profile} {u₀ : Upload} {d₀ bytes : List ℕ} {i : ℕ} {u : Upload} {d : List ℕ} {n : ℕ} (ready : Ready p u₀ (length d₀))
-    (fits : u₀ .next + length bytes ≤ p .size) (before : Reached p u₀ d₀ bytes i u d) (part : Part (u .next) (length bytes - i) n) where
+    (fits : u₀ .next + length bytes ≤ p .size) (before : Reached p u₀ d₀ bytes i u d) (part : Part (profileOf p .page) (u .next) (length bytes - i) n) where
   length-part : length (take n (drop i bytes)) ≡ n
   length-part = length-take-le n (drop i bytes) (simp length-drop (part .within))
 
@@ -77,7 +77,7 @@ module _ {p : Profile} {u₀ : Upload} {d₀ bytes : List ℕ} {i : ℕ} {u : Up
     held-fits : u .held + length (take n (drop i bytes)) ≤ length (u .waiting)
     held-fits = rw length-part (omega arith)
 
-    buffer-stored : length ws ≡ page
+    buffer-stored : length ws ≡ largestPage
     buffer-stored = ap length part-stored ∙ length-overlay (u .waiting) (u .held) (take n (drop i bytes)) held-fits ∙ before .buffer
 
     -- the part has joined the waiting bytes
@@ -87,7 +87,7 @@ module _ {p : Profile} {u₀ : Upload} {d₀ bytes : List ℕ} {i : ℕ} {u : Up
         rw (part-stored, length-part, rw length-part at more)
 
     -- a part that ends before its page does: that is all
-    pub turn-appended : ((u .next + n) % page ≡ 0 → ⊥) → Reached p u₀ d₀ bytes (i + n) (filled u n ws) d
+    pub turn-appended : ((u .next + n) % profileOf p .page ≡ 0 → ⊥) → Reached p u₀ d₀ bytes (i + n) (filled u n ws) d
     turn-appended short =
         reached d₀ ready bytes fits (i + n) (filled u n ws) (omega arith) buffer-stored
         (filled-appended
@@ -96,11 +96,11 @@ module _ {p : Profile} {u₀ : Upload} {d₀ bytes : List ℕ} {i : ℕ} {u : Up
         ∙ takenAll-part)
 
     -- a part that ends with its page: the page is committed
-    pub turn-committed : {count : ℕ} {d′ : List ℕ} → (u .next + n) % page ≡ 0
+    pub turn-committed : {count : ℕ} {d′ : List ℕ} → (u .next + n) % profileOf p .page ≡ 0
         → CommitCounted d (p .offset + (u .next + n - (u .held + n))) (take (u .held + n) ws) (u .count) count d′
         → Reached p u₀ d₀ bytes (i + n) (emptied (filled u n ws) count) d′
     turn-committed {count} whole settled =
-        let place = sub-mod page (u .next) (u .held) (omega arith) (before .held .held-most) in
+        let place = sub-mod (profileOf p .page) (u .next) (u .held) (ready-bounds ready .profile .page-least) (before .held .held-most) in
         let shift : u .next + n - (u .held + n) ≡ u .next - u .held = omega arith in
         let lies =
         fitting p (filled u n ws) d (ready-bounds ready .profile) (omega arith) (omega arith) (omega arith) (rw shift (omega arith)) in
