@@ -4,7 +4,7 @@ use mathlib.Core.Bool.{Bool, true, false, cond}
 use mathlib.Core.List.{List, [], _∷_, _++_}
 use Prim.Native.Nat.{ℕ, _+_, _-_, _%_, _<_, _≤_}
 use native.Mathlib.Omega.{arith}
-use native.Mathlib.Nat.{add-zero, mod-eq-of-lt, mod-self, mod-add-mod}
+use native.Mathlib.Nat.{add-zero, mod-lt, mod-eq-of-lt, mod-self, mod-add-mod}
 use lib.ListN.{length, take, drop, length-append, length-take}
 use lib.Seq.{take-at, length-take-le}
 use borrow.Author.Tests.{eq-eqb, ne-eqb}
@@ -63,11 +63,18 @@ pub record Bounds (p : Profile) (u : Upload) : Type 0 where
   pub profile : ProfileFacts (profileOf p)
   pub upload : UploadFacts (profileOf p .page) (p .size) (uploadOf u)
   pub held : HeldFacts (profileOf p .page) (p .size) u
+  pub in-page : u .next % profileOf p .page < profileOf p .page
 
 pub ready-bounds : {p : Profile} {u : Upload} {n : ℕ} → Ready p u n → Bounds p u
 ready-bounds {p} {u} ready =
     let facts = uploadFormed-facts (profileOf p .page) (p .size) (uploadOf u) (ready .formed) in
-    record { profile = inRange-facts (profileOf p) (ready .in-range); upload = facts; held = upload-held (profileOf p .page) (p .size) u facts }
+    let range = inRange-facts (profileOf p) (ready .in-range) in
+    record {
+      profile = range;
+      upload = facts;
+      held = upload-held (profileOf p .page) (p .size) u facts;
+      in-page = mod-lt (u .next) (range .page-least);
+    }
 
 -- a commit by what the code holds
 
