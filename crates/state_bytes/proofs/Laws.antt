@@ -18,7 +18,7 @@ use Rattle.rules.specs.Profile.{inRange}
 use Rattle.laws.proofs.StateLaws.{length-used, inRange-facts, wellFormed-facts}
 use Rattle.state.proofs.Laws.{upload-held, length-last}
 use Rattle.state.specs.declared.State.{State}
-use Rattle.state.specs.View.{page, largestFrame, view}
+use Rattle.state.specs.View.{largestPage, largestFrame, view}
 use Rattle.fields.specs.Fields.{Bytes, part, fourAt, fourBytes}
 use Rattle.state_bytes.specs.StateBytes.{stateSize, stateHeld, stateSaid, noState, stateAt, kindByte, ownByte, runningByte, headBytes}
 use Rattle.state_bytes.specs.StateBytes.{stateBytes, stateWritten}
@@ -40,7 +40,7 @@ pub written-short : (s : State) (b : List ℕ) → length b < stateSize → stat
 unfolding stateWritten
 written-short s b h = rw (lt-leb _ _ h)
 
-pub length-stateBytes : (s : State) → length (s .upload .waiting) ≡ page → length (s .last .bytes) ≡ largestFrame
+pub length-stateBytes : (s : State) → length (s .upload .waiting) ≡ largestPage → length (s .last .bytes) ≡ largestFrame
     → length (stateBytes s) ≡ stateSize
 unfolding stateBytes
 length-stateBytes s waiting bytes = omega (arith, length-append (s .upload .waiting) (s .last .bytes))
@@ -79,7 +79,7 @@ stored-head s b k o r e0 e1 e2 e3 e4 =
     )
 
 -- those of `state_to`
-pub stored : (s : State) (b : List ℕ) {b0 b1 b2 : List ℕ} → length (s .upload .waiting) ≡ page → stateSize ≤ length b
+pub stored : (s : State) (b : List ℕ) {b0 b1 b2 : List ℕ} → length (s .upload .waiting) ≡ largestPage → stateSize ≤ length b
     → b0 ≡ laid (headBytes s) b
     → b1 ≡ overlay b0 20 (s .upload .waiting)
     → b2 ≡ overlay b1 84 (s .last .bytes)
@@ -107,11 +107,11 @@ module _ (s : State) (rest : List ℕ) (fits : StateFits s) where
   unfolding stateBytes
   bytes-said =
       let behind = append-assoc (s .upload .waiting) (s .last .bytes) rest in
-      let waiting : take page (s .upload .waiting ++ s .last .bytes ++ rest) ≡ s .upload .waiting =
-      ap (λ (l : List ℕ). take page l) behind ∙ take-at (s .upload .waiting) _ page (fits .waiting) in
-      let reply : take largestFrame (drop page (s .upload .waiting ++ s .last .bytes ++ rest)) ≡ s .last .bytes =
-      ap (λ (l : List ℕ). take largestFrame (drop page l)) behind
-      ∙ ap (λ (l : List ℕ). take largestFrame l) (drop-at (s .upload .waiting) _ page (fits .waiting))
+      let waiting : take largestPage (s .upload .waiting ++ s .last .bytes ++ rest) ≡ s .upload .waiting =
+      ap (λ (l : List ℕ). take largestPage l) behind ∙ take-at (s .upload .waiting) _ largestPage (fits .waiting) in
+      let reply : take largestFrame (drop largestPage (s .upload .waiting ++ s .last .bytes ++ rest)) ≡ s .last .bytes =
+      ap (λ (l : List ℕ). take largestFrame (drop largestPage l)) behind
+      ∙ ap (λ (l : List ℕ). take largestFrame l) (drop-at (s .upload .waiting) _ largestPage (fits .waiting))
       ∙ take-at (s .last .bytes) rest largestFrame (fits .bytes) in
       rw (
         addressOf-bytes (s .address),
@@ -125,7 +125,7 @@ module _ (s : State) (rest : List ℕ) (fits : StateFits s) where
       )
 
 -- next is at most S, w and the count at most next, a last reply at most M
-pub state-fits : (p : rules.Profile) (s : State) → length (s .upload .waiting) ≡ page → length (s .last .bytes) ≡ largestFrame
+pub state-fits : (p : rules.Profile) (s : State) → length (s .upload .waiting) ≡ largestPage → length (s .last .bytes) ≡ largestFrame
     → inRange p ≡ true
     → wellFormed p (view s) ≡ true → StateFits s
 state-fits p s waiting bytes range formed =
@@ -153,7 +153,7 @@ said-bytes : (b : List ℕ) → Bytes b → stateSize ≤ length b
 unfolding stateBytes
 said-bytes b bytes long =
     let front : List ℕ = kindByte (stateSaid b .address) ∷ ownByte (stateSaid b .address) ∷ runningByte (stateSaid b .running) ∷ 0 ∷ [] in
-    let waiting : List ℕ = part b 20 page in
+    let waiting : List ℕ = part b 20 largestPage in
     let reply : List ℕ = part b 84 largestFrame in
     ap (λ (l : List ℕ). l ++ fourBytes (fourAt b 8) ++ fourBytes (fourAt b 12) ++ fourBytes (fourAt b 16) ++ waiting ++ reply)
     (part-four front b 4 0 bytes (omega arith))
@@ -161,7 +161,7 @@ said-bytes b bytes long =
     (part-four front b 4 4 bytes (omega arith))
     ∙ ap (λ (l : List ℕ). l ++ fourBytes (fourAt b 16) ++ waiting ++ reply) (part-four front b 4 8 bytes (omega arith))
     ∙ ap (λ (l : List ℕ). l ++ waiting ++ reply) (part-four front b 4 12 bytes (omega arith))
-    ∙ ap (λ (l : List ℕ). l ++ reply) (part-more front b 4 16 page)
+    ∙ ap (λ (l : List ℕ). l ++ reply) (part-more front b 4 16 largestPage)
     ∙ part-more front b 4 80 largestFrame
 
 pub state-kept : (b : List ℕ) → Bytes b → stateHeld b ≡ true

@@ -8,7 +8,7 @@ use Rattle.rules.specs.declared.kinds.Address.{Address}
 use Rattle.rules.specs.declared.kinds.Address.the-variants.{DefaultRange, Own}
 use Rattle.rules.specs.Numbers.{laid}
 use Rattle.state.specs.declared.State.{State}
-use Rattle.state.specs.View.{page, largestFrame}
+use Rattle.state.specs.View.{largestPage, largestFrame}
 use Rattle.fields.specs.Fields.{part, fourAt, fourBytes}
 
 -- `STATE_BYTES`
@@ -40,7 +40,7 @@ abbrev pub stateSaid : List ℕ → State
 stateSaid b = record {
   address = addressOf (getD b 0 0) (getD b 1 0);
   running = eqb (getD b 2 0) 1;
-  upload = record { next = fourAt b 4; held = fourAt b 8; count = fourAt b 12; waiting = part b 20 page };
+  upload = record { next = fourAt b 4; held = fourAt b 8; count = fourAt b 12; waiting = part b 20 largestPage };
   last = record { len = fourAt b 16; bytes = part b 84 largestFrame };
 }
 
@@ -49,7 +49,7 @@ abbrev pub noState : State
 noState = record {
   address = DefaultRange;
   running = false;
-  upload = record { next = 0; held = 1; count = 0; waiting = replicate page 0 };
+  upload = record { next = 0; held = 1; count = 0; waiting = replicate largestPage 0 };
   last = record { len = 0; bytes = replicate largestFrame 0 };
 }
 
