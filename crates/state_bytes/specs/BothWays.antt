@@ -22,7 +22,7 @@ pub record StateFits (s : State) : Type 0 where
   pub bytes : length (s .last .bytes) ≡ largestFrame
 
 pub record BothWays : Type 0 where
-  -- every state that is well formed under a profile in range fits; its arrays have 64 and 256 bytes
+  -- every state that is well formed under a profile in range fits; its buffers have the largest page's and the largest M's length
   pub state-fits : (p : Profile) (s : State) → length (s .upload .waiting) ≡ largestPage → length (s .last .bytes) ≡ largestFrame
       → inRange p ≡ true
       → wellFormed p (view s) ≡ true → StateFits s
