@@ -8,7 +8,6 @@ use crate::memory::PAGES;
 use crate::memory::copy;
 use crate::memory::part;
 use bench_output::increment;
-use bench_output::min;
 use bench_output::say;
 use bench_output::tell;
 use profile::Profile;
@@ -25,7 +24,10 @@ pub fn page_size(p: Profile) -> usize
     if size == 0 {
         return State::LARGEST_PAGE;
     }
-    min(size, State::LARGEST_PAGE)
+    if State::LARGEST_PAGE < size {
+        return State::LARGEST_PAGE;
+    }
+    size
 }
 
 // How often a page was rewritten.

@@ -8,10 +8,10 @@ use Rattle.bench_memory.proofs.pages.track.Statement.{statement}
 use Rattle.bench_memory.proofs.pages.track.Tie as tie
 
 abbrev Inv-loop : tie.InvT-loop
-Inv-loop verbose p next memory₀ offset size page₀ n₀ turns₀ memory page n turns = (length memory ≡ length memory₀) × (size ≤ largestPage)
+Inv-loop verbose next memory₀ offset size page₀ n₀ turns₀ memory page n turns = (length memory ≡ length memory₀) × (size ≤ largestPage)
 
 abbrev μ-loop : tie.MeasureT-loop
-μ-loop verbose p next memory₀ offset size page₀ n₀ turns₀ memory page n turns = turns
+μ-loop verbose next memory₀ offset size page₀ n₀ turns₀ memory page n turns = turns
 
 page-size-requires : tie.Need-page-size-requires Inv-loop μ-loop
 page-size-requires c κs = search needs
