@@ -85,6 +85,13 @@ fn waiting_page(size: usize, held: usize, next: usize) -> usize
     if held == 0 { PAGES } else { next / size }
 }
 
+// Where a page begins.
+fn page_start(size: usize, page: usize) -> usize
+    requires { ⌜ size ≤ largestPage ⌝ }
+{
+    min(page, PAGES) * size
+}
+
 // What stands before a page's mark: a new line with the address every 32 pages.
 fn margin(size: usize, page: usize)
     requires { ⌜ size ≤ largestPage ⌝ }
@@ -96,7 +103,7 @@ fn margin(size: usize, page: usize)
         say(b"\n");
     }
     say(b"  ");
-    say_address(min(page, PAGES) * size);
+    say_address(page_start(size, page));
     say(b"  ");
 }
 
