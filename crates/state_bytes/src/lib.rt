@@ -15,7 +15,9 @@ ghost use Rattle.state_bytes.specs.StateBytes.{waitingFrom, replyFrom, s
 
 // Where the buffer of the waiting bytes begins, that of the last reply, and how many bytes a state takes.
 pub const WAITING_AT: usize = 20;
+
 pub const REPLY_AT: usize = WAITING_AT + State::LARGEST_PAGE;
+
 pub const STATE_BYTES: usize = REPLY_AT + State::LARGEST_FRAME;
 
 // 0 default range, 1 own address.
