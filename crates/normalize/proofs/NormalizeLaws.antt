@@ -88,5 +88,6 @@ used-used n l h =
     ∙ take-at l (replicate n 0) (length l) refl
 
 -- a normalized state says what it was made of, where that fits its buffers
-pub view-normalized : (s : rules.State) → length (s .upload .waiting) ≤ largestPage → length (s .last) ≤ largestFrame → view (normalized s) ≡ s
+pub view-normalized : (s : rules.State) → length (s .upload .waiting) ≤ largestPage → length (s .last) ≤ largestFrame
+    → view (normalized s) ≡ s
 view-normalized s waiting last = rw (used-used largestPage (s .upload .waiting) waiting, used-used largestFrame (s .last) last)

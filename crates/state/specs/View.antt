@@ -13,13 +13,13 @@ use Rattle.state.specs.declared.Upload.{Upload}
 use Rattle.state.specs.declared.Last.{Last}
 use Rattle.state.specs.declared.State.{State}
 
--- the sizes that the state's own type has: `State::PAGE`, `State::LARGEST_FRAME`, and `State::LARGEST_PAGE`, which is the rules' largestPage
+-- the sizes that the state's own type has; `State::LARGEST_PAGE` is the rules' largestPage
 
--- page, the one that every profile has: unfolded only where the code names `State::PAGE`
+-- page, `State::PAGE`, the one that every profile has; unfolded only where the code names it
 unfoldable pub page : ℕ
 page = 64
 
--- the largest M
+-- the largest M, `State::LARGEST_FRAME`
 abbrev pub largestFrame : ℕ
 largestFrame = 256
 

@@ -20,8 +20,8 @@ use Rattle.state.proofs.Laws.{upload-held, length-last}
 use Rattle.state.specs.declared.State.{State}
 use Rattle.state.specs.View.{largestPage, largestFrame, view}
 use Rattle.fields.specs.Fields.{Bytes, part, fourAt, fourBytes}
-use Rattle.state_bytes.specs.StateBytes.{waitingFrom, replyFrom, stateSize, stateHeld, stateSaid, noState, stateAt, kindByte, ownByte, runningByte, headBytes}
-use Rattle.state_bytes.specs.StateBytes.{stateBytes, stateWritten}
+use Rattle.state_bytes.specs.StateBytes.{waitingFrom, replyFrom, stateSize, stateHeld, stateSaid, noState, stateAt, kindByte, ownByte}
+use Rattle.state_bytes.specs.StateBytes.{runningByte, headBytes, stateBytes, stateWritten}
 use Rattle.state_bytes.specs.BothWays.{StateFits}
 use Rattle.laws.proofs.TestLaws.{&&-true}
 use Rattle.fields.proofs.Laws.{drop-four, fourAt-fourBytes, part-four, part-more, overlay-first, overlay-laid, laid-part}
@@ -149,7 +149,8 @@ state-read s b fits long =
 -- the bytes of what bytes say, where they are long enough: from 4 on as they were
 said-bytes : (b : List ℕ) → Bytes b → stateSize ≤ length b
     → stateBytes (stateSaid b)
-    ≡ (kindByte (stateSaid b .address) ∷ ownByte (stateSaid b .address) ∷ runningByte (stateSaid b .running) ∷ 0 ∷ []) ++ part b 4 (stateSize - 4)
+    ≡ (kindByte (stateSaid b .address) ∷ ownByte (stateSaid b .address) ∷ runningByte (stateSaid b .running) ∷ 0 ∷ [])
+    ++ part b 4 (stateSize - 4)
 unfolding stateBytes
 said-bytes b bytes long =
     let front : List ℕ = kindByte (stateSaid b .address) ∷ ownByte (stateSaid b .address) ∷ runningByte (stateSaid b .running) ∷ 0 ∷ [] in

@@ -98,7 +98,8 @@ module _ {p : Profile} {page : ℕ} {u₀ : Upload} {d₀ bytes : List ℕ} {i :
     turn-appended short =
         reached d₀ ready bytes fits (before .page-is) (i + n) (filled u n ws) (omega arith) buffer-stored
         (filled-appended
-        ∙ sym (takenAll-appended (profileOf p) (progressOf u d) (take n (drop i bytes)) (rw (length-part, ← before .page-is) (part .in-page))
+        ∙ sym (takenAll-appended (profileOf p) (progressOf u d) (take n (drop i bytes))
+        (rw (length-part, ← before .page-is) (part .in-page))
         (rw (length-part, ← before .page-is) short))
         ∙ takenAll-part)
 
@@ -110,10 +111,12 @@ module _ {p : Profile} {page : ℕ} {u₀ : Upload} {d₀ bytes : List ℕ} {i :
         let place = sub-mod page (u .next) (u .held) (before .page-least) (before .held .held-most) in
         let shift : u .next + n - (u .held + n) ≡ u .next - u .held = omega arith in
         let lies =
-        fitting p (filled u n ws) d (ready-bounds ready .profile) (omega arith) (omega arith) (omega arith) (rw (shift, ← before .page-is) (omega arith)) in
+        fitting p (filled u n ws) d (ready-bounds ready .profile) (omega arith) (omega arith) (omega arith)
+        (rw (shift, ← before .page-is) (omega arith)) in
         reached d₀ ready bytes fits (before .page-is) (i + n) (emptied (filled u n ws) count) (omega arith) buffer-stored
         (sym (committed-counted p (filled u n ws) lies (rw buffer-stored (omega arith)) settled)
         ∙ ap (committed (profileOf p)) filled-appended
-        ∙ sym (takenAll-committed (profileOf p) (progressOf u d) (take n (drop i bytes)) (rw (length-part, ← before .page-is) (part .in-page))
+        ∙ sym (takenAll-committed (profileOf p) (progressOf u d) (take n (drop i bytes))
+        (rw (length-part, ← before .page-is) (part .in-page))
         (rw length-part (part .some)) (rw (length-part, ← before .page-is) whole))
         ∙ takenAll-part)

@@ -37,7 +37,8 @@ loop-again c =
     let turn = c .before .loop in
     let start = c .before .before in
     let long : length (start .args .t1 .waiting) ≡ largestPage = search needs in
-    let another = used-turn largestPage _ _ long (turn .k) (turn .u .waiting) (turn .inv .3) (turn .inv .4) (c .loop-test .taken) (turn .inv .5) in
+    let another =
+    used-turn largestPage _ _ long (turn .k) (turn .u .waiting) (turn .inv .3) (turn .inv .4) (c .loop-test .taken) (turn .inv .5) in
     (turn .inv .0, turn .inv .1, turn .inv .2, simp length-set (turn .inv .3), omega arith, another)
 
 returns : tie.Need-returns Inv-loop μ-loop

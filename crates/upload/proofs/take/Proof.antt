@@ -30,7 +30,8 @@ loop-holds : tie.Need-loop-holds Inv-loop μ-loop
 loop-holds c =
     let paged = c .before in
     let start = paged .before .before .before in
-    reached-none (start .args .flash .now) (start .pre .0) (start .args .bytes .now) (start .pre .1) (paged .page .ensures) (buffer-long start)
+    reached-none (start .args .flash .now) (start .pre .0) (start .args .bytes .now) (start .pre .1) (paged .page .ensures)
+    (buffer-long start)
 
 sub-part : tie.Need-sub-part Inv-loop μ-loop
 sub-part c = search needs
