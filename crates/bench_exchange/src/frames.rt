@@ -211,7 +211,7 @@ fn tell_alarms(verbose: bool, c: Called, status: usize) {
 
 // What changed in flash and state.
 fn tell_since(verbose: bool, d: Bench, after: State, memory: &mut [u8]) {
-    let rewritten = pages::track(verbose, d.profile.offset, after.upload.next, memory);
+    let rewritten = pages::track(verbose, d.profile, after.upload.next, memory);
     if verbose {
         tell_changes(d.state, after, rewritten);
     }

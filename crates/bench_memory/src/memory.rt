@@ -4,6 +4,7 @@ use bench_script::fields::Parsed;
 use bench_script::image::data;
 use bench_script::image::file;
 use bench_script::image::fill;
+use state::State;
 
 // The length of the lent flash. It stands first.
 pub const FLASH: usize = 131072;
@@ -12,7 +13,7 @@ pub const COPY: usize = FLASH;
 
 pub const COUNTS: usize = COPY + FLASH;
 // The most pages that a working flash has.
-pub const PAGES: usize = 1023;
+pub const PAGES: usize = State::LARGEST_FLASH / State::PAGE;
 // The flash before the first write of an upload.
 pub const EARLIER: usize = COUNTS + PAGES;
 // The bytes that a line gives, as many as the flash has at the most; a file with more can be told by one byte more.

@@ -11,7 +11,24 @@ use bench_output::increment;
 use bench_output::say;
 use bench_output::tell;
 use profile::Profile;
+use profile::page;
 use state::State;
+ghost use Prim.Native.Nat.{_<_, _≤_};
+ghost use Rattle.state.specs.View.{largestPage};
+
+// The page of a profile, by which pages are numbered here; the largest page for a profile that has none.
+pub fn page_size(p: Profile) -> usize
+    ensures { λ r. ⌜ (0 < r) × (r ≤ largestPage) ⌝ }
+{
+    let size = page(p);
+    if size == 0 {
+        return State::LARGEST_PAGE;
+    }
+    if State::LARGEST_PAGE < size {
+        return State::LARGEST_PAGE;
+    }
+    size
+}
 
 // How often a page was rewritten.
 pub fn times(page: usize, memory: &[u8]) -> u8 {
@@ -39,15 +56,17 @@ fn count_page(page: usize, memory: &mut [u8]) {
 }
 
 // Makes the copy of a page anew.
-fn copy_page(offset: usize, page: usize, memory: &mut [u8]) {
+fn copy_page(offset: usize, size: usize, page: usize, memory: &mut [u8])
+    requires { ⌜ size ≤ largestPage ⌝ }
+{
     if FLASH < offset {
         return;
     }
     if PAGES < page {
         return;
     }
-    let at = offset + page * State::PAGE;
-    copy(memory, at, COPY + at, State::PAGE);
+    let at = offset + page * size;
+    copy(memory, at, COPY + at, size);
 }
 
 // Whether a page of the flash is another than at a place where a copy of the flash stands.
@@ -61,11 +80,13 @@ fn differs(offset: usize, page: usize, earlier: usize, memory: &[u8]) -> bool {
 }
 
 // A page that may have been rewritten: whether it was.
-fn track_page(verbose: bool, offset: usize, page: usize, memory: &mut [u8]) -> bool {
+fn track_page(verbose: bool, offset: usize, size: usize, page: usize, memory: &mut [u8]) -> bool
+    requires { ⌜ size ≤ largestPage ⌝ }
+{
     if !differs(offset, page, COPY, memory) {
         return false;
     }
-    copy_page(offset, page, memory);
+    copy_page(offset, size, page, memory);
     count_page(page, memory);
     if verbose {
         tell(b"  changed: page % erased and rewritten\n", page);
@@ -74,22 +95,23 @@ fn track_page(verbose: bool, offset: usize, page: usize, memory: &mut [u8]) -> b
 }
 
 // The first of the pages that a frame may have reached whose last byte is at `next`.
-fn first_page(next: usize) -> usize {
-    if next / State::PAGE < 5 {
-        0
-    } else {
-        next / State::PAGE - 5
-    }
+fn first_page(size: usize, next: usize) -> usize
+    requires { ⌜ 0 < size ⌝ }
+{
+    let page = next / size;
+    if page < 5 { 0 } else { page - 5 }
 }
 
 // Whether a page was rewritten, up to the page of `next`.
-pub fn track(verbose: bool, offset: usize, next: usize, memory: &mut [u8]) -> bool {
-    let mut page = first_page(next);
+pub fn track(verbose: bool, p: Profile, next: usize, memory: &mut [u8]) -> bool {
+    let offset = p.offset;
+    let size = page_size(p);
+    let mut page = first_page(size, next);
     let mut n = 0;
     let mut turns = 6usize;
     while 0 < turns {
         turns -= 1;
-        if track_page(verbose, offset, page, memory) {
+        if track_page(verbose, offset, size, page, memory) {
             n = 1;
         }
         page = increment(page);

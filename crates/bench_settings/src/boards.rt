@@ -5,6 +5,7 @@ use bench_exchange::bench::Bench;
 use bench_exchange::bench::default_profile;
 use bench_exchange::requests::lost_with_board;
 use bench_memory::memory::restart_map;
+use bench_memory::pages::page_size;
 use bench_script::fields::Parsed;
 use bench_script::fields::fault;
 use bench_script::fields::first;
@@ -16,6 +17,7 @@ use bench_script::fields::second;
 use profile::Profile;
 use rules::kinds::Bus;
 use state::State;
+ghost use Prim.Native.Nat.{_<_};
 
 // A name in a `board` line.
 enum Field {
@@ -109,19 +111,22 @@ fn with_longest(mut p: Profile, value: &[u8]) -> Described {
 }
 
 // S or O: a number of whole pages.
-fn paged(name: &[u8], value: &[u8], least: usize) -> Parsed {
+fn paged(name: &[u8], value: &[u8], least: usize, page: usize) -> Parsed
+    requires { ⌜ 0 < page ⌝ }
+{
     let got = number(name, value, least, State::LARGEST_FLASH);
     let Parsed::Value(n) = got else {
         return got;
     };
-    if n % State::PAGE != 0 {
-        return fault(name, value, b": a multiple of %\n", State::PAGE);
+    if n % page != 0 {
+        return fault(name, value, b": a multiple of %\n", page);
     }
     got
 }
 
 fn with_size(mut p: Profile, value: &[u8]) -> Described {
-    let got = paged(b"S", value, State::PAGE);
+    let page = page_size(p);
+    let got = paged(b"S", value, page, page);
     let Parsed::Value(n) = got else {
         return wrong(p);
     };
@@ -130,7 +135,7 @@ fn with_size(mut p: Profile, value: &[u8]) -> Described {
 }
 
 fn with_offset(mut p: Profile, value: &[u8]) -> Described {
-    let got = paged(b"O", value, 0);
+    let got = paged(b"O", value, 0, page_size(p));
     let Parsed::Value(n) = got else {
         return wrong(p);
     };

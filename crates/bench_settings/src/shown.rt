@@ -3,6 +3,7 @@ use bench_alarms::alarm::tell_left_waiting;
 use bench_exchange::bench::Bench;
 use bench_exchange::requests::waiting;
 use bench_memory::memory::PAGES;
+use bench_memory::pages::page_size;
 use bench_memory::pages::times;
 use bench_output::as_usize;
 use bench_output::min;
@@ -16,7 +17,8 @@ use bench_words::ShowWord;
 use profile::Profile;
 use rules::kinds::Address;
 use rules::kinds::Bus;
-use state::State;
+ghost use Prim.Native.Nat.{_<_, _≤_};
+ghost use Rattle.state.specs.View.{largestPage};
 
 fn tell_bus(bus: Bus) {
     match bus {
@@ -77,12 +79,23 @@ fn mark(page: usize, waiting: usize, memory: &[u8]) -> u8 {
 }
 
 // The page with waiting bytes, if there is one.
-fn waiting_page(held: usize, next: usize) -> usize {
-    if held == 0 { 65536 } else { next / State::PAGE }
+fn waiting_page(size: usize, held: usize, next: usize) -> usize
+    requires { ⌜ 0 < size ⌝ }
+{
+    if held == 0 { PAGES } else { next / size }
+}
+
+// Where a page begins.
+fn page_start(size: usize, page: usize) -> usize
+    requires { ⌜ size ≤ largestPage ⌝ }
+{
+    min(page, PAGES) * size
 }
 
 // What stands before a page's mark: a new line with the address every 32 pages.
-fn margin(page: usize) {
+fn margin(size: usize, page: usize)
+    requires { ⌜ size ≤ largestPage ⌝ }
+{
     if page % 32 != 0 {
         return;
     }
@@ -90,32 +103,38 @@ fn margin(page: usize) {
         say(b"\n");
     }
     say(b"  ");
-    say_address(min(page, 1023) * State::PAGE);
+    say_address(page_start(size, page));
     say(b"  ");
 }
 
-fn show_page(page: usize, waiting: usize, memory: &[u8]) {
-    margin(page);
+fn show_page(size: usize, page: usize, waiting: usize, memory: &[u8])
+    requires { ⌜ size ≤ largestPage ⌝ }
+{
+    margin(size, page);
     say(&[mark(page, waiting, memory)]);
 }
 
-fn show_pages(pages: usize, waiting: usize, memory: &[u8]) {
+fn show_pages(size: usize, pages: usize, waiting: usize, memory: &[u8])
+    requires { ⌜ size ≤ largestPage ⌝ }
+{
     let mut page = 0;
     while page < pages {
-        show_page(page, waiting, memory);
+        show_page(size, page, waiting, memory);
         page += 1;
     }
 }
 
 fn show_map(d: Bench, memory: &[u8]) {
+    let size = page_size(d.profile);
     tell(
         b"  a mark for each page of % bytes: . untouched, 1 to 9 rewritten so often, + more often, w bytes wait\n",
-        State::PAGE,
+        size,
     );
     let u = d.state.upload;
     show_pages(
-        min(d.profile.size / State::PAGE, PAGES),
-        waiting_page(u.held, u.next),
+        size,
+        min(d.profile.size / size, PAGES),
+        waiting_page(size, u.held, u.next),
         memory,
     );
     say(b"\n");

@@ -1,4 +1,5 @@
 // The fields of a line, by its letter: numbers, then byte strings.
+use state::State;
 use text::read::Field;
 use text::read::is_read;
 use text::read::read_hex;
@@ -69,7 +70,7 @@ fn strings(letter: u8) -> usize {
 fn lengths_right(letter: u8, first: usize, second: usize) -> bool {
     match letter {
         b'P' => first <= 40,
-        b'S' => first == 64 && second == 256,
+        b'S' => first == State::LARGEST_PAGE && second == State::LARGEST_FRAME,
         _ => true,
     }
 }

@@ -136,7 +136,7 @@ fn state_of(f: Fields) -> State {
     let n = f.numbers;
     let first = f.first;
     let second = f.second;
-    let mut waiting = [0u8; State::PAGE];
+    let mut waiting = [0u8; State::LARGEST_PAGE];
     copy(&mut waiting, &first);
     let mut reply = [0u8; State::LARGEST_FRAME];
     copy(&mut reply, &second);

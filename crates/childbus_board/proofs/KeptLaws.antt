@@ -17,7 +17,7 @@ use Rattle.rules.specs.Board.{Called, received}
 use Rattle.laws.proofs.StateLaws.{Unrefused, length-used, inRange-facts, wellFormed-facts, refusal-unrefused}
 use Rattle.laws.proofs.TestLaws.{by-test, &&-true}
 use Rattle.laws.proofs.BoardLaws.{received-formed-call, received-refused, refusal-least}
-use Rattle.state.specs.View.{page, largestFrame, view, zeroed}
+use Rattle.state.specs.View.{largestPage, largestFrame, view, zeroed}
 use Rattle.profile.specs.View.{profileOf}
 use Rattle.profile_bytes.specs.ProfileBytes.{profileAt}
 use Rattle.state_bytes.specs.StateBytes.{stateSize, stateHeld, stateAt, stateWritten}
@@ -33,13 +33,13 @@ module _ (p : paper.Profile) (s : rules.State) (range : inRange p ≡ true) (for
   normalized-says =
       let sizes = inRange-facts p range in
       let facts = wellFormed-facts p s formed in
-      let below : s .upload .next % p .page < p .page = mod-lt (s .upload .next) (omega arith) in
+      let below : s .upload .next % p .page < p .page = mod-lt (s .upload .next) (sizes .page-least) in
       view-normalized s (omega arith) (omega arith)
 
   pub written-says : (b : List ℕ) → stateSize ≤ length b → view (stateAt (stateWritten (normalized s) b)) ≡ s
   written-says b long =
       let fits =
-      state-fits p (normalized s) (length-used page (s .upload .waiting)) (length-used largestFrame (s .last)) range
+      state-fits p (normalized s) (length-used largestPage (s .upload .waiting)) (length-used largestFrame (s .last)) range
       (rw normalized-says formed) in
       ap view (state-read (normalized s) b fits long) ∙ normalized-says
 

@@ -33,7 +33,7 @@ pub record ReceivedLeft : Type 0 where
   pub flash : List ℕ
   pub out : List ℕ
 
--- a refused call leaves every byte of the state; any other leaves the new state in the first 340, and the rest
+-- a refused call leaves every byte of the state; any other leaves the new state in its first bytes, and the rest
 abbrev pub stateLeft : Called → List ℕ → List ℕ
 stateLeft c state = cond (ltb (c .number) 2) (stateWritten (normalized (c .state)) state) state
 

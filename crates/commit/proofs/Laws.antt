@@ -4,7 +4,7 @@ use mathlib.Core.Bool.{Bool, true, false, cond}
 use mathlib.Core.List.{List, [], _∷_, _++_}
 use Prim.Native.Nat.{ℕ, _+_, _-_, _%_, _<_, _≤_}
 use native.Mathlib.Omega.{arith}
-use native.Mathlib.Nat.{add-zero, mod-eq-of-lt, mod-self, mod-add-mod}
+use native.Mathlib.Nat.{add-zero, mod-lt, mod-eq-of-lt, mod-self, mod-add-mod}
 use lib.ListN.{length, take, drop, length-append, length-take}
 use lib.Seq.{take-at, length-take-le}
 use borrow.Author.Tests.{eq-eqb, ne-eqb}
@@ -17,7 +17,7 @@ use Rattle.laws.proofs.CommitLaws.{Fitting, raise, appended, committed-overlay,
 use Rattle.laws.proofs.StateLaws.{used-take, used-zero, ProfileFacts, UploadFacts, inRange-facts, uploadFormed-facts, facts-uploadFormed}
 use Rattle.laws.proofs.UploadLaws.{Kept, takenAll-kept, finalized-kept, next-takenAll, next-finalized}
 use Rattle.state.specs.declared.Upload.{Upload}
-use Rattle.state.specs.View.{page, uploadOf}
+use Rattle.state.specs.View.{uploadOf}
 use Rattle.state.proofs.Laws.{HeldFacts, length-waiting, upload-held}
 use Rattle.profile.specs.declared.Profile.{Profile}
 use Rattle.profile.specs.View.{profileOf}
@@ -61,22 +61,29 @@ used-overlay n buffer bytes fits =
 -- the facts that Ready stands for
 pub record Bounds (p : Profile) (u : Upload) : Type 0 where
   pub profile : ProfileFacts (profileOf p)
-  pub upload : UploadFacts page (p .size) (uploadOf u)
-  pub held : HeldFacts page (p .size) u
+  pub upload : UploadFacts (profileOf p .page) (p .size) (uploadOf u)
+  pub held : HeldFacts (profileOf p .page) (p .size) u
+  pub in-page : u .next % profileOf p .page < profileOf p .page
 
 pub ready-bounds : {p : Profile} {u : Upload} {n : ℕ} → Ready p u n → Bounds p u
 ready-bounds {p} {u} ready =
-    let facts = uploadFormed-facts page (p .size) (uploadOf u) (ready .formed) in
-    record { profile = inRange-facts (profileOf p) (ready .in-range); upload = facts; held = upload-held page (p .size) u facts }
+    let facts = uploadFormed-facts (profileOf p .page) (p .size) (uploadOf u) (ready .formed) in
+    let range = inRange-facts (profileOf p) (ready .in-range) in
+    record {
+      profile = range;
+      upload = facts;
+      held = upload-held (profileOf p .page) (p .size) u facts;
+      in-page = mod-lt (u .next) (range .page-least);
+    }
 
 -- a commit by what the code holds
 
 -- waiting bytes that lie in one page of the working flash
 pub fitting : (p : Profile) (u : Upload) (d : List ℕ) → ProfileFacts (profileOf p) → p .offset + p .size ≤ length d → u .next ≤ p .size
-    → u .held ≤ u .next → (u .next - u .held) % page + u .held ≤ page → Fitting (profileOf p) (progressOf u d)
+    → u .held ≤ u .next → (u .next - u .held) % profileOf p .page + u .held ≤ profileOf p .page → Fitting (profileOf p) (progressOf u d)
 fitting p u d facts room next-le held-le in-page =
     record {
-      page-pos = omega arith;
+      page-pos = facts .page-least;
       sized = facts .size-paged;
       room = room;
       next-le = next-le;
@@ -115,8 +122,8 @@ module _ (p : rules.Profile) (u : Upload) (d : List ℕ) where
 
 -- what the rules keep, the code keeps
 pub kept-upload : (p : Profile) (u : Upload) {d d₀ : List ℕ} {g : Progress} → progressOf u d ≡ g → Kept (profileOf p) d₀ g
-    → UploadFacts page (p .size) (uploadOf u)
-kept-upload p u e kept = subst (λ (g : Progress). UploadFacts page (p .size) (g .upload)) (sym e) (kept .formed)
+    → UploadFacts (profileOf p .page) (p .size) (uploadOf u)
+kept-upload p u e kept = subst (λ (g : Progress). UploadFacts (profileOf p .page) (p .size) (g .upload)) (sym e) (kept .formed)
 
 module _ {p : Profile} {u : Upload} (d : List ℕ) (ready : Ready p u (length d)) where
   pub ready-taken : (bytes : List ℕ) → u .next + length bytes ≤ p .size
@@ -135,13 +142,13 @@ module _ {p : Profile} {u : Upload} (d : List ℕ) (ready : Ready p u (length d)
         → Formed p r (u .next + length bytes)
     taken-formed bytes fits e =
         record {
-          formed = facts-uploadFormed page (p .size) (uploadOf r) (kept-upload p r e (ready-taken bytes fits));
+          formed = facts-uploadFormed (profileOf p .page) (p .size) (uploadOf r) (kept-upload p r e (ready-taken bytes fits));
           next-is = ap (λ (g : Progress). g .upload .next) e ∙ next-takenAll (profileOf p) (progressOf u d) bytes;
         }
 
     pub finalized-formed : progressOf r d′ ≡ finalized (profileOf p) (progressOf u d) → Formed p r (u .next)
     finalized-formed e =
         record {
-          formed = facts-uploadFormed page (p .size) (uploadOf r) (kept-upload p r e ready-finalized);
+          formed = facts-uploadFormed (profileOf p .page) (p .size) (uploadOf r) (kept-upload p r e ready-finalized);
           next-is = ap (λ (g : Progress). g .upload .next) e ∙ next-finalized (profileOf p) (progressOf u d);
         }

@@ -9,7 +9,7 @@ use Rattle.rules.specs.Profile.{inRange}
 use Rattle.rules.specs.State.{uploadFormed}
 use Rattle.rules.specs.Commit.{Progress}
 use Rattle.state.specs.declared.Upload.{Upload}
-use Rattle.state.specs.View.{page, uploadOf}
+use Rattle.state.specs.View.{uploadOf}
 use Rattle.profile.specs.declared.Profile.{Profile}
 use Rattle.profile.specs.View.{profileOf}
 
@@ -21,15 +21,15 @@ progressOf u d = record { upload = uploadOf u; flash = d }
 pub record Ready (p : Profile) (u : Upload) (flashLength : ℕ) : Type 0 where
   pub in-range : inRange (profileOf p) ≡ true
   pub flash-holds : p .offset + p .size ≤ flashLength
-  pub formed : uploadFormed page (p .size) (uploadOf u) ≡ true
+  pub formed : uploadFormed (profileOf p .page) (p .size) (uploadOf u) ≡ true
 
 -- what it promises of the upload besides what the rules say: it is formed again, and where its next address is
 pub record Formed (p : Profile) (u : Upload) (next : ℕ) : Type 0 where
-  pub formed : uploadFormed page (p .size) (uploadOf u) ≡ true
+  pub formed : uploadFormed (profileOf p .page) (p .size) (uploadOf u) ≡ true
   pub next-is : u .next ≡ next
 
 -- n of the bytes left, in the page of the next address: some, and none past the page's end
-pub record Part (next left n : ℕ) : Type 0 where
+pub record Part (page next left n : ℕ) : Type 0 where
   pub some : 0 < n
   pub within : n ≤ left
   pub in-page : next % page + n ≤ page

@@ -1,15 +1,14 @@
 // Document 01, "Commit": which bytes go into one page, and a commit that counts. specs/ has what an upload and the flash say together.
-use state::State;
 ghost use Prim.Native.Nat.{_+_, _≤_, _<_};
 ghost use lib.ListN.{length};
 ghost use Rattle.commit.specs.Progress.{Part, CommitCounted};
 
 // How many of the bytes left go into the page of the next address.
-pub fn part(next: usize, left: usize) -> usize
-    requires { ⌜ 0 < left ⌝ }
-    ensures { λ r. ⌜ Part next left r ⌝ }
+pub fn part(page: usize, next: usize, left: usize) -> usize
+    requires { ⌜ (0 < page) × (0 < left) ⌝ }
+    ensures { λ r. ⌜ Part page next left r ⌝ }
 {
-    let room = State::PAGE - next % State::PAGE;
+    let room = page - next % page;
     if left < room { left } else { room }
 }
 

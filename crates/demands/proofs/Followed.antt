@@ -1,25 +1,24 @@
 -- What the past tells is what the board keeps: a command to this board, given to the tracker by frame and answer, shows running, address
 -- and next of the state that it leaves. By its code.
 use mathlib.Core.Path.{_≡_, refl, sym, ap, _∙_}
-use mathlib.Core.Bool.{true, false, not, _&&_, _||_, and-false}
+use mathlib.Core.Bool.{true, false, not, _&&_, and-false}
 use mathlib.Core.List.{List, [], _∷_}
 use Prim.Native.Nat.{ℕ, _+_, _≤_}
 use native.Mathlib.Omega.{arith}
 use lib.Dec.{eqb, leb}
 use lib.ListN.{length, getD, drop}
 use borrow.Author.Tests.{leb-true}
-use Rattle.rules.specs.declared.kinds.Address.the-variants.{Own}
 use Rattle.rules.specs.Profile.{Profile}
 use Rattle.rules.specs.State.{State, withUpload}
 use Rattle.rules.specs.Frames.{reply, destination, commandOf, argumentsOf, numberAt, twoBytes, resetFrame, resetAddressFrame, isGeneral}
 use Rattle.rules.specs.Commit.{Progress, takenAll, finalized}
 use Rattle.rules.specs.Responses.{Acted, Reply, replying, ok, commandNotSupported, invalidArguments}
-use Rattle.rules.specs.Commands.{addressTaken, setAddress, hardwareInfo, serialNumber, started, accepted, restarted, written, finished}
+use Rattle.rules.specs.Commands.{setAddress, hardwareInfo, serialNumber, started, accepted, restarted, written, finished}
 use Rattle.rules.specs.Commands.{readable, shown, executed, tabled, lengthAllowed}
 use Rattle.rules.specs.Board.{Called, finishedCall}
 use Rattle.laws.proofs.TestLaws.{by-test, &&-true}
 use Rattle.laws.proofs.UploadLaws.{next-takenAll, next-finalized}
-use Rattle.laws.proofs.CommandLaws.{next-restarted, executed-cases}
+use Rattle.laws.proofs.CommandLaws.{next-restarted, setAddress-cases, executed-cases}
 use Rattle.ledger.specs.Ledger.{writeAddress, writeData}
 use Rattle.ledger.proofs.FrameReading.{write-address, write-data}
 use Rattle.demands.specs.Past.{pastOf, wellFramed, afterFrame}
@@ -120,17 +119,14 @@ module _ (p : Profile) (s : State) (a : ℕ) (f d : List ℕ) where
       (no-reset : isGeneral (p .bus) a f (resetFrame (p .bus)) ≡ false)
       (no-address : isGeneral (p .bus) a f (resetAddressFrame (p .bus)) ≡ false) where
     address-followed : commandOf (p .bus) f ≡ 0x01 → Followed p s a f (setAddress p s (argumentsOf (p .bus) f) d)
-    unfolding setAddress
     address-followed is =
-        let args : List ℕ = argumentsOf (p .bus) f in
-        let left : State =
-        record { address = Own (addressTaken (p .bus) (getD args 0 0)); running = s .running; upload = s .upload; last = s .last } in
-        by-test (eqb (getD args 1 0) (p .hardware) || eqb (getD args 1 0) 0)
-        (λ e. rw e (reply-followed left d ok [] (after-address p (pastOf s) a f (destination (p .bus) a f) is)))
-        (λ e.
-        rw e
-        (after-silence p (pastOf s) a f [] no-reset (rw no-address (and-false (not (s .running)))) (rw (heard, is))
-        ∙ sym (pastOf-withReply (p .bus) s [])))
+        setAddress-cases p s (argumentsOf (p .bus) f) d (Followed p s a f)
+        (record {
+          taken = λ e. reply-followed _ d ok [] (after-address p (pastOf s) a f (destination (p .bus) a f) is);
+          foreign = λ e.
+              after-silence p (pastOf s) a f [] no-reset (rw no-address (and-false (not (s .running)))) (rw (heard, is))
+              ∙ sym (pastOf-withReply (p .bus) s []);
+        })
 
     start-followed : commandOf (p .bus) f ≡ 0x05 → lengthAllowed 0x05 (length (argumentsOf (p .bus) f)) ≡ true
         → Followed p s a f (started s d)

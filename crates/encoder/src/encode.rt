@@ -24,10 +24,10 @@ pub fn encode(
     if !profile::frame_in_range(longest) {
         return Encoded::FrameOutOfRange;
     }
-    if argument_wrong(bus, longest, request, destination, bytes.len()) {
+    if argument_wrong(bus, longest, request, destination, bytes) {
         return Encoded::ArgumentOutOfRange;
     }
-    if out.len() < request_length(bus, request, bytes.len()) {
+    if out.len() < request_length(bus, request, bytes) {
         return Encoded::OutputTooShort;
     }
     Encoded::Made(write_request(bus, request, destination, bytes, out))

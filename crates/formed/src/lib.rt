@@ -1,15 +1,20 @@
 // Whether a state is one of this board: the test behind number 4.
 use profile::Profile;
+use profile::page;
 use rules::kinds::Bus;
 use state::State;
 use state::Upload;
 ghost use mathlib.Core.Path.{_≡_};
+ghost use mathlib.Core.Bool.{true};
+ghost use Prim.Native.Nat.{_<_};
+ghost use Rattle.rules.specs.Profile.{inRange};
 ghost use Rattle.rules.specs.State.{uploadFormed, wellFormed};
-ghost use Rattle.state.specs.View.{page, uploadOf, view};
+ghost use Rattle.state.specs.View.{uploadOf, view};
 ghost use Rattle.profile.specs.View.{profileOf};
 
 // next at most S, w at most next mod page, the count at most next - w.
-fn upload_formed(size: usize, u: Upload) -> bool
+fn upload_formed(page: usize, size: usize, u: Upload) -> bool
+    requires { ⌜ 0 < page ⌝ }
     ensures { λ r. ⌜ r ≡ uploadFormed page size (uploadOf u) ⌝ }
 {
     let next = u.next;
@@ -17,18 +22,20 @@ fn upload_formed(size: usize, u: Upload) -> bool
     if size < next {
         return false;
     }
-    if next % State::PAGE < held {
+    if next % page < held {
         return false;
     }
     u.count <= next - held
 }
 
-// Number 4 is given exactly where this is false.
+// Number 4 is given exactly where this is false, number 2 not being given.
 pub fn well_formed(p: Profile, s: State) -> bool
+    requires { ⌜ inRange (profileOf p) ≡ true ⌝ }
     ensures { λ r. ⌜ r ≡ wellFormed (profileOf p) (view s) ⌝ }
 {
     let upload = s.upload;
-    if !upload_formed(p.size, upload) {
+    let page = page(p);
+    if !upload_formed(page, p.size, upload) {
         return false;
     }
     let len = s.last.len;

@@ -1,18 +1,18 @@
--- Laws of `CheckSums`, each over the algorithm, so that both widths cite the same one: a register over bytes, its bounds, the
--- linearity of its steps, and the check sum at the end of a frame.
+-- Laws of `CheckSums`, each over the algorithm, so that both widths cite the same one: a register over bytes, the linearity of its steps,
+-- steps in which nothing falls out, its bounds, and the check sum at the end of a frame.
 use mathlib.Core.Path.{_≡_, refl, sym, ap, _∙_}
 use mathlib.Core.Bool.{Bool, true, false, cond, xor}
 use mathlib.Core.List.{List, [], _∷_, _++_}
 use mathlib.Core.Logic.{_⊎_, inl, inr}
-use Prim.Native.Nat.{ℕ, zero, suc, _+_, _-_, _*_, _/_, _%_, _^_, _<_}
-use native.Mathlib.Nat.{mod-lt, add-zero}
+use Prim.Native.Nat.{ℕ, zero, suc, _+_, _-_, _*_, _/_, _%_, _^_, _≤_, _<_}
+use native.Mathlib.Nat.{mod-lt, add-zero, mul-assoc, pow-suc, zero-mod, zero-div, mul-mod-left, div-eq-of-lt, lt-of-lt-of-le}
 use native.Mathlib.Numerals.{add-one}
 use native.Mathlib.Omega.{arith}
 use lib.Arith.{bin-ind}
-use lib.Bits.{bitXor, differ, xor-step, xor-shr, xor-mod, xor-block, xor-lt, xor-comm, xor-self}
+use lib.Bits.{bitXor, differ, xor-step, xor-shr, xor-mod, xor-block, xor-lt, xor-comm, xor-self, xor-shifted}
 use lib.Dec.{eqb}
 use lib.ListN.{length, getD, drop, length-append}
-use lib.Pow.{pow-pos}
+use lib.Pow.{pow-pos, pow-mono, shl-lt, shl-exact, shl-shr, shr-shr, field, mod-mod-pow, split}
 use lib.Seq.{drop-cons, take-at, drop-at}
 use Rattle.rules.specs.declared.kinds.Bus.{Bus}
 use Rattle.rules.specs.declared.kinds.Bus.the-variants.{I2c, Rs485}
@@ -142,6 +142,83 @@ pub times-linear : (k : Algorithm) → Linear k → (n a b : ℕ)
     → times n (bit k) (bitXor a b) ≡ bitXor (times n (bit k) a) (times n (bit k) b)
 times-linear k h zero a b = refl
 times-linear k h (suc n) a b = ap (bit k) (times-linear k h n a b) ∙ bit-linear k h (times n (bit k) a) (times n (bit k) b)
+
+-- ---- steps in which nothing falls out: with linearity, several steps at once by a table of what falls out
+
+-- no bit falls out of a register in n steps
+abbrev pub NoneOut : Algorithm → ℕ → ℕ → Type 0
+NoneOut k n r = (i : ℕ) → i < n → k .out (times i (k .rest) r) ≡ false
+
+pub times-none-out : (k : Algorithm) (n r : ℕ) → NoneOut k n r → times n (bit k) r ≡ times n (k .rest) r
+unfolding bit
+times-none-out k zero r h = refl
+times-none-out k (suc n) r h = rw (times-none-out k n r (λ i b. h i (omega arith)), h n (omega arith))
+
+-- a register of two parts, of which only the first has bits that fall out
+pub times-parts : (k : Algorithm) → Linear k → (n falling staying : ℕ) → NoneOut k n staying
+    → times n (bit k) (bitXor falling staying) ≡ bitXor (times n (bit k) falling) (times n (k .rest) staying)
+times-parts k h n falling staying none =
+    times-linear k h n falling staying ∙ ap (bitXor (times n (bit k) falling)) (times-none-out k n staying none)
+
+-- a number is its high part and its low part
+high-low : (r n : ℕ) → bitXor (r / 2 ^ n * 2 ^ n) (r % 2 ^ n) ≡ r
+high-low r n = xor-shifted (r / 2 ^ n) n (r % 2 ^ n) (mod-lt r (pow-pos n)) ∙ split r n
+
+-- least significant bit first: the n low bits fall out
+module _ (poly start : ℕ) where
+  times-half : (n r : ℕ) → times n (leastFirst poly start .rest) r ≡ r / 2 ^ n
+  times-half zero r = omega arith
+  times-half (suc n) r = ap (λ (x : ℕ). x / 2) (times-half n r) ∙ (rw add-one at (shr-shr r n 1))
+
+  low-none-out : (n r : ℕ) → r % 2 ^ n ≡ 0 → NoneOut (leastFirst poly start) n r
+  low-none-out n r e i b =
+      let whole : n - (1 + i) + (1 + i) ≡ n = omega arith in
+      let low : r % 2 ^ (1 + i) ≡ 0 = sym (mod-mod-pow r (n - (1 + i)) (1 + i)) ∙ rw (whole, e) (zero-mod (2 ^ (1 + i))) in
+      let even : r / 2 ^ i % 2 ≡ 0 = sym (field r 1 i) ∙ rw low (zero-div (2 ^ i)) in
+      rw (times-half i r, even)
+
+  pub leastFirst-none-out : (n r : ℕ) → r % 2 ^ n ≡ 0 → times n (bit (leastFirst poly start)) r ≡ r / 2 ^ n
+  leastFirst-none-out n r e = times-none-out (leastFirst poly start) n r (low-none-out n r e) ∙ times-half n r
+
+  pub leastFirst-steps : (n r : ℕ)
+      → times n (bit (leastFirst poly start)) r ≡ bitXor (times n (bit (leastFirst poly start)) (r % 2 ^ n)) (r / 2 ^ n)
+  leastFirst-steps n r =
+      ap (times n (bit (leastFirst poly start))) (sym (high-low r n) ∙ xor-comm (r / 2 ^ n * 2 ^ n) (r % 2 ^ n))
+      ∙ times-parts (leastFirst poly start) (leastFirst-linear poly start) n (r % 2 ^ n) (r / 2 ^ n * 2 ^ n)
+      (low-none-out n (r / 2 ^ n * 2 ^ n) (mul-mod-left (r / 2 ^ n) (2 ^ n)))
+      ∙ rw times-half (ap (bitXor (times n (bit (leastFirst poly start)) (r % 2 ^ n))) (shl-shr (r / 2 ^ n) n))
+
+-- most significant bit first, at a width of m + n: the n high bits fall out
+module _ (m poly start : ℕ) where
+  times-double : (n i r : ℕ) → i ≤ n → r < 2 ^ m → times i (mostFirst (m + n) poly start .rest) r ≡ r * 2 ^ i
+  times-double n zero r b h = omega arith
+  times-double n (suc i) r b h =
+      let next : r * 2 ^ i * 2 ≡ r * 2 ^ suc i = rw pow-suc (mul-assoc r (2 ^ i) 2) in
+      rw (times-double n i r (omega arith) h, next) (shl-exact m (suc i) (m + n) h (omega arith))
+
+  high-none-out : (n r : ℕ) → r < 2 ^ m → NoneOut (mostFirst (m + n) poly start) n r
+  high-none-out n r h i b =
+      let below : r * 2 ^ i < 2 ^ (m + n - 1) = lt-of-lt-of-le (shl-lt m i h) (pow-mono (omega arith)) in
+      rw (times-double n i r (omega arith) h, div-eq-of-lt below)
+
+  pub mostFirst-none-out : (n r : ℕ) → r < 2 ^ m → times n (bit (mostFirst (m + n) poly start)) r ≡ r * 2 ^ n
+  mostFirst-none-out n r h =
+      times-none-out (mostFirst (m + n) poly start) n r (high-none-out n r h) ∙ times-double n n r (omega arith) h
+
+  pub mostFirst-steps : (n r : ℕ) → times n (bit (mostFirst (m + n) poly start)) r
+      ≡ bitXor (times n (bit (mostFirst (m + n) poly start)) (r / 2 ^ m * 2 ^ m)) (r % 2 ^ m * 2 ^ n)
+  mostFirst-steps n r =
+      ap (times n (bit (mostFirst (m + n) poly start))) (sym (high-low r m))
+      ∙ times-parts (mostFirst (m + n) poly start) (mostFirst-linear (m + n) poly start) n (r / 2 ^ m * 2 ^ m) (r % 2 ^ m)
+      (high-none-out n (r % 2 ^ m) (mod-lt r (pow-pos m)))
+      ∙ rw (times-double n n (r % 2 ^ m) (omega arith) (mod-lt r (pow-pos m)))
+
+-- half a byte: what the steps make of the four bits that fall out, and the others moved
+pub crc8-half : (r : ℕ) → times 4 (bit crc8) r ≡ bitXor (times 4 (bit crc8) (r / 16 * 16)) (r % 16 * 16)
+crc8-half = mostFirst-steps 4 0x07 0xFF 4
+
+pub crc16-half : (r : ℕ) → times 4 (bit crc16) r ≡ bitXor (times 4 (bit crc16) (r % 16)) (r / 16)
+crc16-half = leastFirst-steps 0xA001 0xFFFF 4
 
 -- ---- bounds: a register of so many bits keeps to them
 

@@ -1,7 +1,7 @@
 -- Laws of the commands: whatever a command does, the upload stays well formed, flash keeps its length, and its response fits a frame of M
 -- bytes. Why: M is at least 32; the serial has at most 16 bytes, read asks for no more than fits, the other results have at most five.
 use mathlib.Core.Path.{_≡_, refl, sym}
-use mathlib.Core.Bool.{true, _||_}
+use mathlib.Core.Bool.{true, false, _||_}
 use mathlib.Core.List.{List, [], _∷_}
 use Prim.Native.Nat.{ℕ, zero, suc, _+_, _-_, _≤_}
 use native.Mathlib.Omega.{arith}
@@ -10,12 +10,13 @@ use lib.ListN.{length, take, drop, getD, length-take}
 use borrow.Author.Tests.{eqb-true, leb-true}
 use Rattle.rules.specs.declared.kinds.Bus.{Bus}
 use Rattle.rules.specs.declared.kinds.Bus.the-variants.{I2c, Rs485}
+use Rattle.rules.specs.declared.kinds.Address.the-variants.{Own}
 use Rattle.rules.specs.Profile.{Profile}
-use Rattle.rules.specs.State.{State, Upload}
+use Rattle.rules.specs.State.{State, Upload, withAddress}
 use Rattle.rules.specs.Frames.{reply, shortestReply, twoBytes, numberAt}
 use Rattle.rules.specs.Responses.{Response, Reply, NoReply, Acted, replying, ok, commandNotSupported, invalidArguments}
 use Rattle.rules.specs.Commands.{setAddress, hardwareInfo, serialNumber, started, accepted, restarted, written, finished, readable, shown}
-use Rattle.rules.specs.Commands.{performed, executed, tabled, lengthAllowed}
+use Rattle.rules.specs.Commands.{addressTaken, performed, executed, tabled, lengthAllowed}
 use Rattle.laws.proofs.StateLaws.{ProfileFacts, UploadFacts}
 use Rattle.laws.proofs.CheckSumLaws.{length-sealed}
 use Rattle.laws.proofs.TestLaws.{by-test, &&-true}
@@ -86,6 +87,26 @@ executed-cases p s (suc (suc (suc (suc (suc (suc (suc (suc (suc (suc (suc (suc (
 executed-cases p s (suc (suc (suc (suc (suc (suc (suc (suc (suc (suc (suc (suc (suc (suc zero)))))))))))))) args d P c = c .unserved
 executed-cases p s (suc (suc (suc (suc (suc (suc (suc (suc (suc (suc (suc (suc (suc (suc (suc n))))))))))))))) args d P c = c .unserved
 
+-- a claim on what set address does, outcome by outcome, each with one premise
+pub record Addressing (p : Profile) (s : State) (args d : List ℕ) (P : Acted → Type 0) : Type 0 where
+  pub taken : (eqb (getD args 1 0) (p .hardware) || eqb (getD args 1 0) 0) ≡ true
+      → P (replying (withAddress s (Own (addressTaken (p .bus) (getD args 0 0)))) d ok [])
+  pub foreign : (eqb (getD args 1 0) (p .hardware) || eqb (getD args 1 0) 0) ≡ false
+      → P (record { response = NoReply; state = s; flash = d })
+
+-- each outcome, for code that made the same test
+pub setAddress-outcomes : (p : Profile) (s : State) (args d : List ℕ) → Addressing p s args d (λ a. setAddress p s args d ≡ a)
+unfolding setAddress
+setAddress-outcomes p s args d = record { taken = λ e. rw e; foreign = λ e. rw e }
+
+pub setAddress-cases : (p : Profile) (s : State) (args d : List ℕ) (P : Acted → Type 0) → Addressing p s args d P
+    → P (setAddress p s args d)
+setAddress-cases p s args d P c =
+    let outcomes = setAddress-outcomes p s args d in
+    by-test (eqb (getD args 1 0) (p .hardware) || eqb (getD args 1 0) 0)
+    (λ e. rw (outcomes .taken e) (c .taken e))
+    (λ e. rw (outcomes .foreign e) (c .foreign e))
+
 -- an accepted write goes on, or begins anew, just at its address
 pub next-restarted : (S n address : ℕ) (u : Upload) → accepted S (u .next) address n ≡ true → restarted address u .next ≡ address
 next-restarted S n address u e =
@@ -105,11 +126,12 @@ module _ (p : Profile) (facts : ProfileFacts p) (s : State) (formed : UploadFact
       record { formed = formed; flash-length = refl; fits = omega (arith, shortestReply-le (p .bus), facts .longest-least) }
 
   setAddress-formed-result : (args : List ℕ) → FormedResult p d (setAddress p s args d)
-  unfolding setAddress
   setAddress-formed-result args =
-      by-test (eqb (getD args 1 0) (p .hardware) || eqb (getD args 1 0) 0)
-      (λ e. rw e (record { formed = formed; flash-length = refl; fits = omega (arith, shortestReply-le (p .bus), facts .longest-least) }))
-      (λ e. rw e (record { formed = formed; flash-length = refl; fits = tt }))
+      setAddress-cases p s args d (FormedResult p d)
+      (record {
+        taken = λ e. record { formed = formed; flash-length = refl; fits = omega (arith, shortestReply-le (p .bus), facts .longest-least) };
+        foreign = λ e. record { formed = formed; flash-length = refl; fits = tt };
+      })
 
   serialNumber-formed-result : FormedResult p d (serialNumber p s d)
   serialNumber-formed-result =

@@ -67,7 +67,7 @@ module _ (page n : ℕ) (pos : 0 < page) where
 
 module _ (p : Profile) (facts : ProfileFacts p) (d : List ℕ) (room : p .offset + p .size ≤ length d) where
   pos : 0 < p .page
-  pos = omega (arith, facts .page-is)
+  pos = facts .page-least
 
   module _ (image : List ℕ) (fits : length image ≤ p .size) where
     abbrev before : Progress

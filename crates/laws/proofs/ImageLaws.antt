@@ -144,7 +144,7 @@ takenAll-paged p facts d room image fits =
     let g : Progress = takenAll p (begins d) image in
     let stands : Stands p d image g =
     takenAll-stands p facts d room [] (begins d) image (begins-stands p d) (begins-formed p) (omega arith) in
-    let full = takenAll-unbroken p (omega (arith, facts .page-is)) (begins d) image (sym (zero-mod (p .page))) in
+    let full = takenAll-unbroken p (facts .page-least) (begins d) image (sym (zero-mod (p .page))) in
     let many : length (stands .done) ≡ pageStart (p .page) (length image) =
     omega (
       arith,

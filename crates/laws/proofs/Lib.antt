@@ -12,3 +12,4 @@ pub mod FrameLaws
 pub mod ArgumentLaws
 pub mod ImageLaws
 pub mod CountLaws
+pub mod RequestLaws

@@ -12,7 +12,8 @@ use lib.Seq.{take-append-le, take-at, take-suc-set}
 use borrow.Author.Tests.{leb-true, eqb-true, ltb-false, le-leb, eq-eqb, le-ltb, not-false}
 use Rattle.rules.specs.declared.kinds.Bus.{Bus}
 use Rattle.rules.specs.declared.kinds.Bus.the-variants.{I2c, Rs485}
-use Rattle.rules.specs.Profile.{Profile, frameInRange, pageInRange, paged, sizeInRange, offsetInRange, hardwareInRange, inRange}
+use Rattle.rules.specs.Profile.{Profile, frameInRange, largestPage, pageInRange, paged, sizeInRange, offsetInRange, hardwareInRange}
+use Rattle.rules.specs.Profile.{inRange}
 use Rattle.rules.specs.State.{State, Upload, fresh, used, uploadFormed, replyFormed, wellFormed}
 use Rattle.rules.specs.Numbers.{refusal, flashShort, bufferShort}
 use Rattle.laws.proofs.TestLaws.{&&-true}
@@ -34,10 +35,14 @@ used-zero buffer = refl
 
 -- the range rule
 
+pub pageInRange-bounds : (page : ℕ) → pageInRange page ≡ true → (0 < page) × (page ≤ largestPage)
+pageInRange-bounds page e = let is = eqb-true page _ e in (omega arith, omega arith)
+
 pub record ProfileFacts (p : Profile) : Type 0 where
   pub longest-least : 32 ≤ p .longest
   pub longest-most : p .longest ≤ 256
-  pub page-is : p .page ≡ 64
+  pub page-least : 0 < p .page
+  pub page-most : p .page ≤ largestPage
   pub size-paged : p .size % p .page ≡ 0
   pub size-least : p .page ≤ p .size
   pub size-most : p .size ≤ 65472
@@ -63,7 +68,8 @@ inRange-facts p e =
     record {
       longest-least = leb-true _ _ (frames .0);
       longest-most = leb-true _ _ (frames .1);
-      page-is = eqb-true _ _ (page .0);
+      page-least = pageInRange-bounds (p .page) (page .0) .0;
+      page-most = pageInRange-bounds (p .page) (page .0) .1;
       size-paged = eqb-true _ _ (sizes .0);
       size-least = leb-true _ _ (within .0);
       size-most = leb-true _ _ (within .1);

@@ -97,7 +97,7 @@ module _ (p : Profile) (facts : ProfileFacts p) (g : Progress) (b : ℕ) where
       (below : g .upload .next < p .size) where
     pub more-fitting : Fitting p (record { upload = more; flash = g .flash })
     more-fitting =
-        let pos : 0 < p .page = omega (arith, facts .page-is) in
+        let pos : 0 < p .page = facts .page-least in
         let start : more .next - length (more .waiting) ≡ g .upload .next - length (g .upload .waiting) = omega (arith, length-more) in
         let place = sub-mod (p .page) (g .upload .next) (length (g .upload .waiting)) pos (formed .waiting-most) in
         record {
@@ -111,7 +111,7 @@ module _ (p : Profile) (facts : ProfileFacts p) (g : Progress) (b : ℕ) where
 
     more-formed : ((g .upload .next + 1) % p .page ≡ 0 → ⊥) → UploadFacts (p .page) (p .size) more
     more-formed inner =
-        let pos : 0 < p .page = omega (arith, facts .page-is) in
+        let pos : 0 < p .page = facts .page-least in
         record {
           next-most = omega arith;
           waiting-most = omega (arith, length-more, formed .waiting-most, suc-mod-inner (p .page) (g .upload .next) pos inner);
@@ -143,7 +143,7 @@ module _ (p : Profile) (facts : ProfileFacts p) where
   pub formed-fitting : (g : Progress) → p .offset + p .size ≤ length (g .flash) → UploadFacts (p .page) (p .size) (g .upload) → Fitting p g
   formed-fitting g room formed =
       let u : Upload = g .upload in
-      let pos : 0 < p .page = omega (arith, facts .page-is) in
+      let pos : 0 < p .page = facts .page-least in
       let place = sub-mod (p .page) (u .next) (length (u .waiting)) pos (formed .waiting-most) in
       record {
         page-pos = pos;

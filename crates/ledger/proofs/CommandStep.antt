@@ -1,22 +1,21 @@
 -- A well-framed command, by its code: write and finalize are `UploadStep`'s, all others leave the upload as it is, and start loses the
 -- waiting bytes of a board that then takes none before a reset.
 use mathlib.Core.Path.{_≡_, refl, sym}
-use mathlib.Core.Bool.{true, false, _||_, false≢true}
+use mathlib.Core.Bool.{true, false, false≢true}
 use mathlib.Core.List.{List, [], _∷_}
 use Prim.Native.Nat.{ℕ, _≤_}
 use lib.Dec.{eqb, leb}
 use lib.ListN.{length, getD}
 use borrow.Author.Tests.{leb-true}
-use Rattle.rules.specs.declared.kinds.Address.the-variants.{Own}
 use Rattle.rules.specs.Profile.{Profile}
 use Rattle.rules.specs.State.{State}
 use Rattle.rules.specs.Frames.{twoBytes, numberAt, commandOf, argumentsOf}
 use Rattle.rules.specs.Responses.{Acted, replying, commandNotSupported, invalidArguments, ok}
-use Rattle.rules.specs.Commands.{executed, setAddress, serialNumber, started, shown, lengthAllowed, tabled, addressTaken, hardwareInfo}
+use Rattle.rules.specs.Commands.{executed, setAddress, serialNumber, started, shown, lengthAllowed, tabled, hardwareInfo}
 use Rattle.rules.specs.Commands.{readable}
 use Rattle.rules.specs.Board.{finishedCall}
 use Rattle.laws.proofs.TestLaws.{by-test, &&-true}
-use Rattle.laws.proofs.CommandLaws.{executed-cases}
+use Rattle.laws.proofs.CommandLaws.{setAddress-cases, executed-cases}
 use Rattle.ledger.specs.Ledger.{Ledger, resetForm}
 use Rattle.ledger.proofs.Kept.{Keeps, keeps-other, Entered, error-no-entry, other-no-entry, no-reply-no-entry}
 use Rattle.ledger.proofs.UploadStep.{Serving, serving-keeps, finished-enters, written-enters}
@@ -40,13 +39,12 @@ module _ (p : Profile) (s : State) (d : List ℕ) (k : Ledger) (a : ℕ) (f : Li
   tells c status results e w z = other-no-entry p k a f to status results s d (rw e w) (rw e z) kept
 
   setAddress-enters : (args : List ℕ) → commandOf (p .bus) f ≡ 0x01 → Enters (setAddress p s args d)
-  unfolding setAddress
   setAddress-enters args e =
-      by-test (eqb (getD args 1 0) (p .hardware) || eqb (getD args 1 0) 0)
-      (λ own. rw own
-      (other-no-entry p k a f to ok [] _ d (rw e) (rw e)
-      (keeps-other p s d k (Own (addressTaken (p .bus) (getD args 0 0))) (s .last) kept)))
-      (λ foreign. rw foreign (no-reply-no-entry p k a f to s d form kept))
+      setAddress-cases p s args d Enters
+      (record {
+        taken = λ own. other-no-entry p k a f to ok [] _ d (rw e) (rw e) (keeps-other p s d k _ _ kept);
+        foreign = λ other. no-reply-no-entry p k a f to s d form kept;
+      })
 
   serial-enters : commandOf (p .bus) f ≡ 0x04 → Enters (serialNumber p s d)
   serial-enters e =

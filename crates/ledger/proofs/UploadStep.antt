@@ -35,7 +35,7 @@ pub unrefused-serving : (p : Profile) (s : State) (d : List ℕ) (k : Ledger) (m
     → Keeps p s d k → Serving p s d k
 unrefused-serving p s d k m h off i =
     let held : length (s .upload .waiting) ≡ length (rest k) = ap length (i .waiting-is off) in
-    let page : 0 < p .page = omega (arith, h .profile .page-is) in
+    let page : 0 < p .page = h .profile .page-least in
     let long : length d ≡ length (k .copy) = ap length (i .flash-is) in
     record {
       pages = record { page-pos = page; sized = h .profile .size-paged };

@@ -53,14 +53,14 @@ fn first_waiting(next: usize, n: usize) -> usize
     if next < n { 0 } else { next - n }
 }
 
-// Still wait: how many bytes wait in an upload, at most a page.
+// Still wait: how many bytes wait in an upload, at most the largest page.
 pub fn waiting(u: Upload) -> usize
     ensures { λ r. ⌜ r ≡ waitingBytes (uploadOf u) ⌝ }
 {
-    if u.held < State::PAGE {
+    if u.held < State::LARGEST_PAGE {
         return u.held;
     }
-    State::PAGE
+    State::LARGEST_PAGE
 }
 
 // Lost: how many bytes that waited before a call are neither waiting nor in flash at their place after it.

@@ -15,7 +15,7 @@ use Rattle.laws.proofs.StateLaws.{used-take, length-used}
 use Rattle.laws.proofs.TestLaws.{by-test}
 use Rattle.state.specs.declared.Upload.{Upload}
 use Rattle.state.specs.declared.Last.{Last}
-use Rattle.state.specs.View.{page, largestFrame, uploadOf, lastOf, view}
+use Rattle.state.specs.View.{largestPage, largestFrame, uploadOf, lastOf, view}
 use Rattle.normalize.specs.Normalized.{normalizedUpload, normalizedLast, normalized}
 
 -- a buffer w of n bytes, of which the first m are in use; m past n changes nothing
@@ -72,7 +72,7 @@ module _ (n m : ℕ) (w : List ℕ) (long : length w ≡ n) where
 -- the results of the two functions, field by field
 
 pub normalized-upload : (u : Upload) {next held count : ℕ} {waiting : List ℕ}
-    → next ≡ u .next → held ≡ u .held → count ≡ u .count → waiting ≡ used page (used (u .held) (u .waiting))
+    → next ≡ u .next → held ≡ u .held → count ≡ u .count → waiting ≡ used largestPage (used (u .held) (u .waiting))
     → _≡_ {A = Upload} (record { next = next; held = held; count = count; waiting = waiting }) (normalizedUpload (uploadOf u))
 normalized-upload u next held count waiting = rw (next, held, count, waiting, length-used (u .held) (u .waiting))
 
@@ -88,5 +88,6 @@ used-used n l h =
     ∙ take-at l (replicate n 0) (length l) refl
 
 -- a normalized state says what it was made of, where that fits its buffers
-pub view-normalized : (s : rules.State) → length (s .upload .waiting) ≤ page → length (s .last) ≤ largestFrame → view (normalized s) ≡ s
-view-normalized s waiting last = rw (used-used page (s .upload .waiting) waiting, used-used largestFrame (s .last) last)
+pub view-normalized : (s : rules.State) → length (s .upload .waiting) ≤ largestPage → length (s .last) ≤ largestFrame
+    → view (normalized s) ≡ s
+view-normalized s waiting last = rw (used-used largestPage (s .upload .waiting) waiting, used-used largestFrame (s .last) last)

@@ -7,10 +7,10 @@ use Rattle.rules.specs.State.{used}
 use Rattle.state.specs.declared.Upload.{Upload}
 use Rattle.state.specs.declared.Last.{Last}
 use Rattle.state.specs.declared.State.{State}
-use Rattle.state.specs.View.{page, largestFrame}
+use Rattle.state.specs.View.{largestPage, largestFrame}
 
 abbrev pub normalizedUpload : rules.Upload → Upload
-normalizedUpload u = record { next = u .next; held = length (u .waiting); count = u .count; waiting = used page (u .waiting) }
+normalizedUpload u = record { next = u .next; held = length (u .waiting); count = u .count; waiting = used largestPage (u .waiting) }
 
 abbrev pub normalizedLast : List ℕ → Last
 normalizedLast l = record { len = length l; bytes = used largestFrame l }

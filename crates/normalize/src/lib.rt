@@ -11,7 +11,7 @@ fn normalize_upload(mut u: Upload) -> Upload
     ensures { λ r. ⌜ r ≡ normalizedUpload (uploadOf u) ⌝ }
 {
     let mut k = u.held;
-    while k < State::PAGE {
+    while k < State::LARGEST_PAGE {
         u.waiting[k] = 0;
         k += 1;
     }

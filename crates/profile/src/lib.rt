@@ -2,8 +2,8 @@
 use rules::kinds::Bus;
 use state::State;
 ghost use mathlib.Core.Path.{_≡_};
-ghost use Rattle.rules.specs.Profile.{frameInRange, sizeInRange, offsetInRange, inRange};
-ghost use Rattle.state.specs.View.{page};
+ghost use Prim.Native.Nat.{_<_};
+ghost use Rattle.rules.specs.Profile.{frameInRange, pageInRange, sizeInRange, offsetInRange, inRange};
 ghost use Rattle.profile.specs.View.{profileOf};
 
 pub struct Profile {
@@ -42,24 +42,40 @@ pub fn frame_in_range(longest: usize) -> bool
     longest <= State::LARGEST_FRAME
 }
 
+// The page of a board: the same for every profile.
+pub fn page(p: Profile) -> usize
+    ensures { λ r. ⌜ r ≡ profileOf p .page ⌝ }
+{
+    State::PAGE
+}
+
+// page: 64 bytes.
+fn page_in_range(page: usize) -> bool
+    ensures { λ r. ⌜ r ≡ pageInRange page ⌝ }
+{
+    page == State::PAGE
+}
+
 // S: a multiple of the page, from one page to the largest S.
-fn size_in_range(size: usize) -> bool
+fn size_in_range(page: usize, size: usize) -> bool
+    requires { ⌜ 0 < page ⌝ }
     ensures { λ r. ⌜ r ≡ sizeInRange page size ⌝ }
 {
-    if size % State::PAGE != 0 {
+    if size % page != 0 {
         return false;
     }
-    if size < State::PAGE {
+    if size < page {
         return false;
     }
     size <= State::LARGEST_FLASH
 }
 
 // O: a multiple of the page, from 0 to the largest S.
-fn offset_in_range(offset: usize) -> bool
+fn offset_in_range(page: usize, offset: usize) -> bool
+    requires { ⌜ 0 < page ⌝ }
     ensures { λ r. ⌜ r ≡ offsetInRange page offset ⌝ }
 {
-    if offset % State::PAGE != 0 {
+    if offset % page != 0 {
         return false;
     }
     offset <= State::LARGEST_FLASH
@@ -72,10 +88,14 @@ pub fn in_range(p: Profile) -> bool
     if !frame_in_range(p.longest) {
         return false;
     }
-    if !size_in_range(p.size) {
+    let page = page(p);
+    if !page_in_range(page) {
         return false;
     }
-    if !offset_in_range(p.offset) {
+    if !size_in_range(page, p.size) {
+        return false;
+    }
+    if !offset_in_range(page, p.offset) {
         return false;
     }
     if p.hardware < 1 {

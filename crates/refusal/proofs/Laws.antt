@@ -32,16 +32,10 @@ refusal-by : {o o′ : Outcome} → made o ≡ 0 → eqb (number o) 0 ≡ false 
 refusal-by {o} none not is = record { numbered = ap number (sym is); none-made = ap made (sym is) ∙ none; not-zero = not }
 
 -- the number of the first of the four tests that applies, as `refusal` has it
-abbrev pub firstOf : Bool → Bool → Bool → Bool → ℕ
+abbrev firstOf : Bool → Bool → Bool → Bool → ℕ
 firstOf outOfRange short malformed small = cond outOfRange 2 (cond short 3 (cond malformed 4 (cond small 5 0)))
 
 module _ (p : Profile) (s : State) (flash buffer : ℕ) where
-  -- the number by what the four tests answer
-  pub refusal-firstOf : {ranged short formed small : Bool} → ranged ≡ inRange p → short ≡ flashShort p flash → formed ≡ wellFormed p s
-      → small ≡ bufferShort p buffer → refusal p s flash buffer ≡ firstOf (not ranged) short (not formed) small
-  unfolding refusal
-  refusal-firstOf a b c d = rw (a, b, c, d)
-
   -- the call goes on: what holds then is `refusal-unrefused` of rules
   pub check-passed : checkOf (refusal p s flash buffer) ≡ Passed → refusal p s flash buffer ≡ 0
   unfolding refusal checkOf

@@ -34,24 +34,20 @@ pub enum Check {
     Refused(Outcome),
 }
 
-// Order of a board call's tests: 2, 3, 4, 5.
+// Order of a board call's tests: 2, 3, 4, 5; each may rely on those before it.
 pub fn refuse(p: Profile, s: State, flash: usize, buffer: usize) -> Check
     ensures { λ r. ⌜ r ≡ checkOf (refusal (profileOf p) (view s) flash buffer) ⌝ }
 {
-    let ranged = in_range(p);
-    let short = flash_short(p, flash);
-    let formed = well_formed(p, s);
-    let small = buffer_short(p, buffer);
-    if !ranged {
+    if !in_range(p) {
         return Check::Refused(Outcome::ProfileOutOfRange);
     }
-    if short {
+    if flash_short(p, flash) {
         return Check::Refused(Outcome::FlashTooShort);
     }
-    if !formed {
+    if !well_formed(p, s) {
         return Check::Refused(Outcome::StateMalformed);
     }
-    if small {
+    if buffer_short(p, buffer) {
         return Check::Refused(Outcome::BufferTooShort);
     }
     Check::Passed

@@ -2,30 +2,20 @@
 mod write;
 
 use crate::write::write_command;
-use crate::write::write_reset;
-use crate::write::write_reset_address;
+use general_calls::General;
+use general_calls::general_length;
+use general_calls::write_general;
 use rules::kinds::Bus;
 use rules::requests::Request;
 ghost use mathlib.Core.Path.{_≡_};
-ghost use Prim.Native.Nat.{_^_, _<_, _≤_};
+ghost use Prim.Native.Nat.{_≤_};
 ghost use lib.ListN.{length};
-ghost use Rattle.rules.specs.Master.{requestBytes};
-ghost use Rattle.request_bytes.specs.Making.{Makes, Fitting, generalLength, requestLength};
+ghost use Rattle.rules.specs.Master.{instructionOf, requestBytes};
+ghost use Rattle.request_bytes.specs.Making.{Makes, requestLength, CommandFits, NumbersFit};
 
-// A general call.
-fn general_length(bus: Bus) -> usize
-    ensures { λ r. ⌜ r ≡ generalLength bus ⌝ }
-{
-    match bus {
-        Bus::I2c => 1,
-        Bus::Rs485 => 4,
-    }
-}
-
-// A request with n data bytes.
-pub fn request_length(bus: Bus, request: Request, n: usize) -> usize
-    requires { ⌜ n < 2 ^ 63 ⌝ }
-    ensures { λ r. ⌜ r ≡ requestLength bus request n ⌝ }
+// A request with its data bytes.
+pub fn request_length(bus: Bus, request: Request, bytes: &[u8]) -> usize
+    ensures { λ r. ⌜ r ≡ requestLength bus (instructionOf request (now (bytes .entry))) ⌝ }
 {
     let shortest = frame_sizes::shortest_request(bus);
     match request {
@@ -34,7 +24,7 @@ pub fn request_length(bus: Bus, request: Request, n: usize) -> usize
             address: _,
             hardware: _,
         } => shortest + 2,
-        Request::Write { address: _ } => shortest + 2 + n,
+        Request::Write { address: _ } => shortest + 2 + bytes.len(),
         Request::Read {
             address: _,
             length: _,
@@ -52,7 +42,8 @@ pub fn write_request(
     bytes: &[u8],
     out: &mut [u8],
 ) -> usize
-    requires { ⌜ Fitting request destination × (requestLength bus request (length (now bytes)) ≤ length (now out)) ⌝ }
+    requires { ⌜ CommandFits (instructionOf request (now bytes)) destination × NumbersFit request
+        × (requestLength bus (instructionOf request (now bytes)) ≤ length (now out)) ⌝ }
     ensures { λ r. ⌜ Makes (requestBytes bus request destination (now (bytes .entry))) (now (out .entry)) (now (out .exit)) r ⌝ }
 {
     let none = &bytes[..0];
@@ -70,7 +61,7 @@ pub fn write_request(
             let arguments = [(address / 256) as u8, (address % 256) as u8, length as u8];
             write_command(bus, destination, 0x08, &arguments, none, out)
         }
-        Request::ResetAddress => write_reset_address(bus, out),
-        Request::Reset => write_reset(bus, out),
+        Request::ResetAddress => write_general(bus, General::ResetAddress, out),
+        Request::Reset => write_general(bus, General::Reset, out),
     }
 }

@@ -1,11 +1,10 @@
-// A request's bytes, written into a lent output that has room for them.
+// A command's bytes, written into a lent output that has room for them.
 use rules::kinds::Bus;
-ghost use mathlib.Core.Path.{_≡_};
 ghost use mathlib.Core.List.{[], _∷_, _++_};
 ghost use Prim.Native.Nat.{_+_, _<_, _≤_};
 ghost use lib.ListN.{length, take};
-ghost use Rattle.rules.specs.Frames.{header, headerLength, shortestRequest, request, resetAddressFrame, resetFrame};
-ghost use Rattle.request_bytes.specs.Making.{Makes, generalLength};
+ghost use Rattle.rules.specs.Frames.{header, headerLength, shortestRequest, request};
+ghost use Rattle.request_bytes.specs.Making.{Makes};
 
 // What stands before the arguments: (RS485: the address,) the command.
 fn write_front(bus: Bus, destination: usize, code: usize, out: &mut [u8]) -> usize
@@ -51,26 +50,4 @@ pub(crate) fn write_command(
     let more = append(out, front, first);
     let all = append(out, more, second);
     frame::seal::seal(bus, out, all)
-}
-
-// The first general call: default range again.
-pub(crate) fn write_reset_address(bus: Bus, out: &mut [u8]) -> usize
-    requires { ⌜ generalLength bus ≤ length (now out) ⌝ }
-    ensures { λ r. ⌜ Makes (resetAddressFrame bus) (now (out .entry)) (now (out .exit)) r ⌝ }
-{
-    match bus {
-        Bus::I2c => bytes::copy(&[0x04], out),
-        Bus::Rs485 => bytes::copy(&[0x00, 0x44, 0x01, 0x83], out),
-    }
-}
-
-// The second: reset.
-pub(crate) fn write_reset(bus: Bus, out: &mut [u8]) -> usize
-    requires { ⌜ generalLength bus ≤ length (now out) ⌝ }
-    ensures { λ r. ⌜ Makes (resetFrame bus) (now (out .entry)) (now (out .exit)) r ⌝ }
-{
-    match bus {
-        Bus::I2c => bytes::copy(&[0x06], out),
-        Bus::Rs485 => bytes::copy(&[0x00, 0x46, 0x80, 0x42], out),
-    }
 }

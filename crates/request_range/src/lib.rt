@@ -47,16 +47,16 @@ fn read_wrong(bus: Bus, longest: usize, address: usize, length: usize) -> bool
     65535 < address || longest - frame_sizes::shortest_reply(bus) < length
 }
 
-// A request with n data bytes. The general calls have no arguments.
+// A request with its data bytes. The general calls have no arguments.
 pub fn argument_wrong(
     bus: Bus,
     longest: usize,
     request: Request,
     destination: usize,
-    n: usize,
+    bytes: &[u8],
 ) -> bool
-    requires { ⌜ (32 ≤ longest) × (n < 2 ^ 63) ⌝ }
-    ensures { λ r. ⌜ r ≡ argumentWrong bus longest request destination n ⌝ }
+    requires { ⌜ 32 ≤ longest ⌝ }
+    ensures { λ r. ⌜ r ≡ argumentWrong bus longest request destination (now (bytes .entry)) ⌝ }
 {
     match request {
         Request::Plain(code) => command_wrong(bus, longest, destination, code, 0),
@@ -65,7 +65,7 @@ pub fn argument_wrong(
                 || set_address_wrong(bus, address, hardware)
         }
         Request::Write { address } => {
-            command_wrong(bus, longest, destination, 0x06, 2 + n) || 65535 < address
+            command_wrong(bus, longest, destination, 0x06, bytes.len() + 2) || 65535 < address
         }
         Request::Read { address, length } => {
             command_wrong(bus, longest, destination, 0x08, 3)

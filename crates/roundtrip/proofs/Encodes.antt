@@ -41,7 +41,7 @@ addressed-within Rs485 own a e byte = le-ltb 255 a byte
 
 -- no test stands against a request
 encoded-zero : (b : Bus) (M : ℕ) (r : Request) (to : ℕ) (bytes : List ℕ) (room : ℕ) → 32 ≤ M → M ≤ 256
-    → argumentWrong b M r to (length bytes) ≡ false → length (requestBytes b r to bytes) ≤ room → encoded b M r to bytes room .number ≡ 0
+    → argumentWrong b M r to bytes ≡ false → length (requestBytes b r to bytes) ≤ room → encoded b M r to bytes room .number ≡ 0
 unfolding encoded
 encoded-zero b M r to bytes room least most right fits =
     rw (le-leb 32 M least, le-leb M 256 most, right, le-ltb room (length (requestBytes b r to bytes)) fits)
@@ -70,14 +70,14 @@ module _ (l : Line) (b : Board) (ready : Ready l b) where
     unfolding argumentWrong requestBytes tabled
     write-made bytes most =
         let M : ℕ = l .profile .longest in
-        let n : ℕ = length bytes in
+        let n : ℕ = length (twoBytes at ++ bytes) in
         let bounds = shortestRequest-within (l .profile .bus) in
         let range = unrefused .profile in
-        let fits : shortestRequest (l .profile .bus) + (2 + n) ≤ M = omega (arith, bounds .0, bounds .1, range .longest-least) in
-        let allowed : lengthAllowed 0x06 (2 + n) ≡ true =
-        rw (le-leb 2 (2 + n) (omega arith), le-leb (2 + n) 254 (omega (arith, bounds .0, range .longest-most))) in
+        let fits : shortestRequest (l .profile .bus) + n ≤ M = omega (arith, bounds .0, bounds .1, range .longest-least) in
+        let allowed : lengthAllowed 0x06 n ≡ true =
+        rw (le-leb 2 n (omega arith), le-leb n 254 (omega (arith, bounds .0, range .longest-most))) in
         encoded-zero (l .profile .bus) M (Write at) (l .to) bytes (l .buffer) (range .longest-least) (range .longest-most)
-        (rw (command-right 0x06 (2 + n) refl allowed fits, le-ltb 65535 at address))
+        (rw (command-right 0x06 n refl allowed fits, le-ltb 65535 at address))
         (omega (arith, length-request (l .profile .bus) (l .to) 0x06 (twoBytes at ++ bytes), unrefused .buffer-holds))
 
     pub read-made : (n : ℕ) → n ≤ resultsMost (l .profile .bus) (l .profile .longest)
@@ -99,5 +99,5 @@ module _ (l : Line) (b : Board) (ready : Ready l b) where
       let bounds = shortestRequest-within (l .profile .bus) in
       let range = unrefused .profile in
       encoded-zero (l .profile .bus) M (Plain 0x07) (l .to) [] (l .buffer) (range .longest-least) (range .longest-most)
-      (command-right 0x07 0 refl refl (omega (arith, bounds .1, range .longest-least)))
+      (rw (command-right 0x07 0 refl refl (omega (arith, bounds .1, range .longest-least))))
       (omega (arith, length-request (l .profile .bus) (l .to) 0x07 [], unrefused .buffer-holds, bounds .1, range .longest-least))

@@ -16,7 +16,8 @@ use Rattle.rules.specs.Commands.{performed}
 use Rattle.rules.specs.Board.{withReply}
 use Rattle.laws.proofs.StateLaws.{Unrefused, refusal-unrefused, unrefused-refusal}
 use Rattle.laws.proofs.BoardLaws.{FormedCall, received-formed-call, withReply-upload}
-use Rattle.roundtrip.specs.Sending.{Sending, Instruction, Commands, Given, Beside, AddressedBy, target, bus, encoding, frame, call}
+use Rattle.rules.specs.Master.{Instruction, Commands}
+use Rattle.roundtrip.specs.Sending.{Sending, Given, Beside, AddressedBy, target, bus, encoding, frame, call}
 use Rattle.roundtrip.specs.Sending.{instruction}
 use Rattle.roundtrip.specs.Understood.{TakenAs, Understood}
 use Rattle.roundtrip.specs.ReadBack.{Answered, ResponseRead, Replied}

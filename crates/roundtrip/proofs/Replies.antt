@@ -1,7 +1,7 @@
 -- Every reply is read. The call is the command's own (`Requests`), its response fits the decoder (`Responded`), and the decoder finds in a
 -- whole reply just its status and results (`FrameLaws`). On I²C the reply is the last reply of the state that the call leaves.
 use mathlib.Core.Path.{_≡_, refl, sym, ap, subst, _∙_}
-use mathlib.Core.Bool.{true, false, _||_}
+use mathlib.Core.Bool.{true, false}
 use mathlib.Core.List.{List, [], _++_, append-nil}
 use Prim.Native.Nat.{ℕ, _≤_, _<_}
 use native.Mathlib.Omega.{arith}
@@ -19,18 +19,19 @@ use Rattle.rules.specs.Frames.{shortestReply, reply, addressed}
 use Rattle.rules.specs.Responses.{Response, Reply, NoReply, Acted}
 use Rattle.rules.specs.Commands.{addressTaken, setAddress, performed, served}
 use Rattle.rules.specs.Board.{Called, withReply, readAnswered, readOut}
+use Rattle.rules.specs.Master.{Instruction, Commands, AddressReset, BoardReset}
 use Rattle.rules.specs.Master.{resultsMissing, decodedRead, resultsIn, resultBytes, whichRead, addressOver}
 use Rattle.laws.proofs.TestLaws.{by-test}
 use Rattle.laws.proofs.StateLaws.{Unrefused, refusal-unrefused, unrefused-refusal}
-use Rattle.laws.proofs.CommandLaws.{length-reply}
+use Rattle.laws.proofs.CommandLaws.{length-reply, setAddress-cases}
 use Rattle.laws.proofs.BoardLaws.{FormedCall, received-formed-call, withReply-kept}
 use Rattle.laws.proofs.FrameLaws.{Ends, decoded-reply, results-reply}
-use Rattle.roundtrip.specs.Sending.{Sending, Instruction, Commands, AddressReset, BoardReset, Given, AddressedBy, bus, frame, call}
+use Rattle.roundtrip.specs.Sending.{Sending, Given, AddressedBy, bus, frame, call}
 use Rattle.roundtrip.specs.Sending.{instruction}
 use Rattle.roundtrip.specs.Understood.{TakenAs, Understood}
 use Rattle.roundtrip.specs.ReadBack.{ReadsAs, TwoReads, addressedNext, ReadOut, ResponseRead, Replied, RepliesRead}
-use Rattle.roundtrip.proofs.Made.{Allowed}
-use Rattle.roundtrip.proofs.Requests.{AllowedBy, NewAddress, made-allowed, made-address, executed-performed, given-understood}
+use Rattle.laws.proofs.RequestLaws.{Allowed, AllowedBy}
+use Rattle.roundtrip.proofs.Requests.{NewAddress, made-allowed, made-address, executed-performed, given-understood}
 use Rattle.roundtrip.proofs.Responded.{Responding, Responded, Responds, executed-responds}
 
 -- a whole reply decodes
@@ -102,9 +103,10 @@ taken-addressed Rs485 a over some = rw (ne-eqb a 0 some, eq-eqb a a refl)
 setAddress-taken : (p : Profile) (s : State) (args d : List ℕ) (status : ℕ) (results : List ℕ)
     → setAddress p s args d .response ≡ Reply status results
     → setAddress p s args d .state .address ≡ Own (addressTaken (p .bus) (getD args 0 0))
-unfolding setAddress
-setAddress-taken p s args d status results said =
-    by-test (eqb (getD args 1 0) (p .hardware) || eqb (getD args 1 0) 0) (λ e. rw e) (λ e. let other = rw e at said in cc)
+setAddress-taken p s args d status results =
+    setAddress-cases p s args d
+    (λ a. a .response ≡ Reply status results → a .state .address ≡ Own (addressTaken (p .bus) (getD args 0 0)))
+    (record { taken = λ e said. refl; foreign = λ e said. cc })
 
 performed-setAddress : (p : Profile) (s : State) (args d : List ℕ) → performed p s 0x01 args d ≡ setAddress p s args d
 unfolding performed

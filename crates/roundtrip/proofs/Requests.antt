@@ -1,7 +1,7 @@
 -- Every request is understood. A command's frame is well framed by its shape (`FrameLaws`) and by the encoder's own tests (`Made`), so the
 -- board executes it (`BoardLaws`), and the encoder asks the same table of argument lengths. A general call is its exact form.
 use mathlib.Core.Path.{_≡_, refl, _∙_}
-use mathlib.Core.Bool.{Bool, true, false, _||_}
+use mathlib.Core.Bool.{Bool, true, false}
 use mathlib.Core.List.{List, [], _∷_, _++_}
 use Prim.Native.Nat.{ℕ, _+_}
 use native.Mathlib.Omega.{arith}
@@ -22,34 +22,15 @@ use Rattle.rules.specs.Numbers.{refusal}
 use Rattle.rules.specs.Frames.{twoBytes, request, resetAddressFrame, resetFrame, destination, addressed, verdict, commandOf, argumentsOf}
 use Rattle.rules.specs.Commands.{served, lengthAllowed, performed, executed}
 use Rattle.rules.specs.Board.{nothing, addressReset, handled}
-use Rattle.rules.specs.Master.{addressOver, flashAddressOver, commandWrong, argumentWrong, requestBytes}
+use Rattle.rules.specs.Master.{Instruction, Commands, AddressReset, BoardReset, instructionOf, instructionBytes, requestBytes}
+use Rattle.rules.specs.Master.{addressOver, numbersWrong}
 use Rattle.laws.proofs.BoardLaws.{received-handled}
 use Rattle.laws.proofs.FrameLaws.{argumentsOf-request, commandOf-request, destination-request, verdict-request}
-use Rattle.roundtrip.specs.Sending.{Sending, Instruction, Commands, AddressReset, BoardReset, Given, Beside, AddressedBy, bus}
-use Rattle.roundtrip.specs.Sending.{encoding, frame, call, instructionOf, instruction, target}
+use Rattle.roundtrip.specs.Sending.{Sending, Given, Beside, AddressedBy, bus, encoding, frame, call, instruction, target}
 use Rattle.roundtrip.specs.Understood.{verdictOn, TakenAs, Understood, Carried, RequestsUnderstood}
 use Rattle.laws.proofs.TestLaws.{||-false}
-use Rattle.roundtrip.proofs.Made.{encoded-made, Allowed, commandWrong-allowed}
-
--- the command that a request asks for passed the encoder's tests
-abbrev pub AllowedBy : Bus → ℕ → ℕ → Instruction → Type 0
-AllowedBy bus M to (Commands code arguments) = Allowed bus M to code (length arguments)
-AllowedBy bus M to AddressReset = Unit
-AllowedBy bus M to BoardReset = Unit
-
-allowed-by : (b : Bus) (M : ℕ) (r : Request) (to : ℕ) (bytes : List ℕ) → argumentWrong b M r to (length bytes) ≡ false
-    → AllowedBy b M to (instructionOf r bytes)
-unfolding argumentWrong
-allowed-by b M (Plain code) to bytes e = commandWrong-allowed b M to code 0 e
-allowed-by b M (SetAddress address hardware) to bytes e =
-    commandWrong-allowed b M to 0x01 2 (||-false (commandWrong b M to 0x01 2) (addressOver b address || ltb 255 hardware) e .0)
-allowed-by b M (Write address) to bytes e =
-    let long : 2 + length bytes ≡ length (twoBytes address ++ bytes) = omega arith in
-    rw long at (commandWrong-allowed b M to 0x06 (2 + length bytes)
-    (||-false (commandWrong b M to 0x06 (2 + length bytes)) (flashAddressOver address) e .0))
-allowed-by b M (Read address n) to bytes e = commandWrong-allowed b M to 0x08 3 (||-false (commandWrong b M to 0x08 3) _ e .0)
-allowed-by b M ResetAddress to bytes e = tt
-allowed-by b M Reset to bytes e = tt
+use Rattle.laws.proofs.RequestLaws.{Allowed, AllowedBy}
+use Rattle.roundtrip.proofs.Made.{encoded-made}
 
 -- a new address that set address carries is one of the bus
 abbrev pub NewAddress : Bus → Instruction → Type 0
@@ -61,49 +42,26 @@ none-over : (b : Bus) → addressOver b 0 ≡ false
 none-over I2c = refl
 none-over Rs485 = refl
 
-new-address : (b : Bus) (M : ℕ) (r : Request) (to : ℕ) (bytes : List ℕ) → argumentWrong b M r to (length bytes) ≡ false
-    → NewAddress b (instructionOf r bytes)
-unfolding argumentWrong
-new-address b M (Plain code) to bytes e = λ is. none-over b
-new-address b M (SetAddress address hardware) to bytes e =
-    λ is.
-    ||-false (addressOver b address) (ltb 255 hardware)
-    (||-false (commandWrong b M to 0x01 2) (addressOver b address || ltb 255 hardware) e .1) .0
-new-address b M (Write address) to bytes e = λ is. absurd (omega arith)
-new-address b M (Read address n) to bytes e = λ is. absurd (omega arith)
-new-address b M ResetAddress to bytes e = tt
-new-address b M Reset to bytes e = tt
-
--- the frame of what is asked
-abbrev pub formOf : Bus → ℕ → Instruction → List ℕ
-formOf b to (Commands code arguments) = request b to code arguments
-formOf b to AddressReset = resetAddressFrame b
-formOf b to BoardReset = resetFrame b
-
-requestBytes-form : (b : Bus) (r : Request) (to : ℕ) (bytes : List ℕ) → requestBytes b r to bytes ≡ formOf b to (instructionOf r bytes)
-unfolding requestBytes
-requestBytes-form b (Plain code) to bytes = refl
-requestBytes-form b (SetAddress address hardware) to bytes = refl
-requestBytes-form b (Write address) to bytes = refl
-requestBytes-form b (Read address n) to bytes = refl
-requestBytes-form b ResetAddress to bytes = refl
-requestBytes-form b Reset to bytes = refl
+new-address : (b : Bus) (M : ℕ) (r : Request) (bytes : List ℕ) → numbersWrong b M r ≡ false → NewAddress b (instructionOf r bytes)
+new-address b M (Plain code) bytes e = λ is. none-over b
+new-address b M (SetAddress address hardware) bytes e = λ is. ||-false (addressOver b address) (ltb 255 hardware) e .0
+new-address b M (Write address) bytes e = λ is. absurd (omega arith)
+new-address b M (Read address n) bytes e = λ is. absurd (omega arith)
+new-address b M ResetAddress bytes e = tt
+new-address b M Reset bytes e = tt
 
 -- a request that was made: its frame, and what it passed
-pub frame-is : (x : Sending) → encoding x .number ≡ 0 → frame x ≡ formOf (bus x) (x .to) (instruction x)
-frame-is x e =
-    encoded-made (bus x) (x .profile .longest) (x .request) (x .to) (x .bytes) (x .room) e .bytes-are
-    ∙ requestBytes-form (bus x) (x .request) (x .to) (x .bytes)
+pub frame-is : (x : Sending) → encoding x .number ≡ 0 → frame x ≡ instructionBytes (bus x) (x .to) (instruction x)
+unfolding requestBytes
+frame-is x e = encoded-made (bus x) (x .profile .longest) (x .request) (x .to) (x .bytes) (x .room) e .bytes-are
 
 pub made-allowed : (x : Sending) → encoding x .number ≡ 0 → AllowedBy (bus x) (x .profile .longest) (x .to) (instruction x)
-made-allowed x e =
-    allowed-by (bus x) (x .profile .longest) (x .request) (x .to) (x .bytes)
-    (encoded-made (bus x) (x .profile .longest) (x .request) (x .to) (x .bytes) (x .room) e .argument-right)
+made-allowed x e = encoded-made (bus x) (x .profile .longest) (x .request) (x .to) (x .bytes) (x .room) e .right .allowed
 
 pub made-address : (x : Sending) → encoding x .number ≡ 0 → NewAddress (bus x) (instruction x)
 made-address x e =
-    new-address (bus x) (x .profile .longest) (x .request) (x .to) (x .bytes)
-    (encoded-made (bus x) (x .profile .longest) (x .request) (x .to) (x .bytes) (x .room) e .argument-right)
+    new-address (bus x) (x .profile .longest) (x .request) (x .bytes)
+    (encoded-made (bus x) (x .profile .longest) (x .request) (x .to) (x .bytes) (x .room) e .right .numbers-right)
 
 -- commands
 
@@ -178,7 +136,7 @@ module _ (x : Sending) (none : refusal (x .profile) (x .state) (length (x .flash
       rw form (verdict-reset (bus x) (x .profile .longest) (x .state .running) (x .state .address) (x .beside) beside) in
       (heard, received-handled (x .profile) (x .state) (x .flash) (x .beside) (frame x) (x .buffer) none ∙ rw heard)
 
-understood : (x : Sending) (a : Instruction) → frame x ≡ formOf (bus x) (x .to) a → AllowedBy (bus x) (x .profile .longest) (x .to) a
+understood : (x : Sending) (a : Instruction) → frame x ≡ instructionBytes (bus x) (x .to) a → AllowedBy (bus x) (x .profile .longest) (x .to) a
     → Beside (bus x) (x .beside) (target (x .to) a) → refusal (x .profile) (x .state) (length (x .flash)) (x .buffer) ≡ 0
     → AddressedBy (x .profile) (x .state) (x .to) a → Understood x a
 understood x (Commands code arguments) form allowed sent none heard = commanded x none code arguments form sent heard allowed
@@ -187,7 +145,7 @@ understood x BoardReset form allowed sent none heard = reset x none form sent
 
 -- the arguments as the commands read them
 
-carried : (b : Bus) (r : Request) (to : ℕ) (bytes : List ℕ) → Carried r bytes (argumentsOf b (formOf b to (instructionOf r bytes)))
+carried : (b : Bus) (r : Request) (to : ℕ) (bytes : List ℕ) → Carried r bytes (argumentsOf b (instructionBytes b to (instructionOf r bytes)))
 carried b (Plain code) to bytes = argumentsOf-request b to code []
 carried b (SetAddress address hardware) to bytes = rw (argumentsOf-request b to 0x01 (address ∷ hardware ∷ [])) (refl, refl)
 carried b (Write address) to bytes = rw (argumentsOf-request b to 0x06 (twoBytes address ++ bytes)) (div-add-mod' address 256, refl)

@@ -2,7 +2,7 @@
 -- (`executed-cases`); a read within S shows as many bytes as it asks for. A command that replies keeps the board stopped, and only set
 -- address moves it.
 use mathlib.Core.Path.{_≡_, refl}
-use mathlib.Core.Bool.{false, _||_}
+use mathlib.Core.Bool.{false}
 use mathlib.Core.List.{List, [], _∷_}
 use Prim.Native.Nat.{ℕ, _+_, _-_, _≤_}
 use native.Mathlib.Omega.{arith}
@@ -17,7 +17,7 @@ use Rattle.rules.specs.Responses.{Response, Reply, NoReply, Acted, replying, ok
 use Rattle.rules.specs.Commands.{setAddress, hardwareInfo, serialNumber, accepted, written, finished, readable, shown, executed}
 use Rattle.rules.specs.Master.{fixedPart, resultsMissing}
 use Rattle.laws.proofs.TestLaws.{by-test, &&-true}
-use Rattle.laws.proofs.CommandLaws.{executed-cases}
+use Rattle.laws.proofs.CommandLaws.{setAddress-cases, executed-cases}
 
 -- a command that responds with a status and results
 pub record Responding (s : State) (code asked : ℕ) (act : Acted) (status : ℕ) (results : List ℕ) : Type 0 where
@@ -53,17 +53,14 @@ module _ (p : Profile) (s : State) (d : List ℕ) (code asked : ℕ) where
   ok-responds results h = replying-responds ok results (omega arith) (enough-results code asked (length results) h)
 
   setAddress-responds : (args : List ℕ) → code ≡ 0x01 → Responds s code asked (setAddress p s args d)
-  unfolding setAddress fixedPart
+  unfolding fixedPart
   setAddress-responds args is =
-      by-test (eqb (getD args 1 0) (p .hardware) || eqb (getD args 1 0) 0)
-      (λ e. rw e
+      setAddress-cases p s args d (Responds s code asked)
       (record {
-        status-known = omega arith;
-        enough = rw is;
-        still-stopped = refl;
-        address-kept = λ other. absurd (other is);
-      }))
-      (λ e. rw e tt)
+        taken = λ e.
+            record { status-known = omega arith; enough = rw is; still-stopped = refl; address-kept = λ other. absurd (other is) };
+        foreign = λ e. tt;
+      })
 
   serialNumber-responds : code ≡ 0x04 → Responds s code asked (serialNumber p s d)
   unfolding fixedPart

@@ -14,7 +14,7 @@ use Rattle.rules.specs.Numbers.{refusal}
 use Rattle.rules.specs.Frames.{addressed}
 use Rattle.rules.specs.Responses.{ok}
 use Rattle.rules.specs.Board.{Called, readOut}
-use Rattle.rules.specs.Master.{Decoding, decoded, resultsIn}
+use Rattle.rules.specs.Master.{Instruction, Commands, AddressReset, BoardReset, Decoding, instructionOf, decoded, resultsIn}
 use Rattle.roundtrip.specs.Sending.{Sending, bus, encoding, call}
 
 -- one board on a bus: its profile, the address that the master sends to, and how long the buffers of both sides are
@@ -66,13 +66,13 @@ abbrev pub after : Sending → Board
 after x = record { state = answer x .state; flash = answer x .flash }
 
 -- the command that the master sent, and the length that its read asks for
+abbrev pub codeIn : Instruction → ℕ
+codeIn (Commands code arguments) = code
+codeIn AddressReset = 0
+codeIn BoardReset = 0
+
 abbrev pub codeSent : Request → ℕ
-codeSent (Plain code) = code
-codeSent (SetAddress address hardware) = 0x01
-codeSent (Write address) = 0x06
-codeSent (Read address n) = 0x08
-codeSent ResetAddress = 0
-codeSent Reset = 0
+codeSent r = codeIn (instructionOf r [])
 
 abbrev pub lengthSent : Request → ℕ
 lengthSent (Plain code) = 0

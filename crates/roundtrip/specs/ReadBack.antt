@@ -11,8 +11,8 @@ use Rattle.rules.specs.Frames.{headerLength, addressed}
 use Rattle.rules.specs.Responses.{Response, Reply, NoReply}
 use Rattle.rules.specs.Commands.{performed}
 use Rattle.rules.specs.Board.{readOut}
-use Rattle.rules.specs.Master.{decoded, decodedRead, resultsIn, resultBytes, whichRead}
-use Rattle.roundtrip.specs.Sending.{Sending, Instruction, Commands, AddressReset, BoardReset, Given, bus, call, instruction}
+use Rattle.rules.specs.Master.{Instruction, Commands, AddressReset, BoardReset, decoded, decodedRead, resultsIn, resultBytes, whichRead}
+use Rattle.roundtrip.specs.Sending.{Sending, Given, bus, call, instruction}
 
 -- a reply decodes, with the command, address and read length that were sent, to this status with these results
 pub record ReadsAs (bus : Bus) (code address asked : ℕ) (reply : List ℕ) (status : ℕ) (results : List ℕ) : Type 0 where

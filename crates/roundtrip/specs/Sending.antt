@@ -1,19 +1,18 @@
 -- A request that the encoder makes, given to a board.
 use mathlib.Core.Path.{_≡_}
 use mathlib.Core.Bool.{true, false}
-use mathlib.Core.List.{List, [], _∷_, _++_}
+use mathlib.Core.List.{List}
 use Prim.Native.Nat.{ℕ}
 use lib.ListN.{length}
 use Rattle.rules.specs.declared.kinds.Bus.{Bus}
 use Rattle.rules.specs.declared.kinds.Bus.the-variants.{I2c, Rs485}
 use Rattle.rules.specs.declared.requests.Request.{Request}
-use Rattle.rules.specs.declared.requests.Request.the-variants.{Plain, SetAddress, Write, Read, ResetAddress, Reset}
 use Rattle.rules.specs.Profile.{Profile}
 use Rattle.rules.specs.State.{State}
 use Rattle.rules.specs.Numbers.{refusal}
-use Rattle.rules.specs.Frames.{twoBytes, addressed}
+use Rattle.rules.specs.Frames.{addressed}
 use Rattle.rules.specs.Board.{Called, received}
-use Rattle.rules.specs.Master.{Encoding, encoded}
+use Rattle.rules.specs.Master.{Instruction, Commands, AddressReset, BoardReset, Encoding, instructionOf, encoded}
 
 pub record Sending : Type 0 where
   -- the master: the request, its destination, a write's data bytes, and how long the output is that it lends to the encoder
@@ -42,20 +41,7 @@ frame x = encoding x .bytes
 abbrev pub call : Sending → Called
 call x = received (x .profile) (x .state) (x .beside) (frame x) (x .flash) (x .buffer)
 
--- what a request asks: a command with its argument bytes, or one of the two general calls
-pub data Instruction : Type 0 where
-  Commands : ℕ → List ℕ → Instruction
-  AddressReset : Instruction
-  BoardReset : Instruction
-
-abbrev pub instructionOf : Request → List ℕ → Instruction
-instructionOf (Plain code) bytes = Commands code []
-instructionOf (SetAddress address hardware) bytes = Commands 0x01 (address ∷ hardware ∷ [])
-instructionOf (Write address) bytes = Commands 0x06 (twoBytes address ++ bytes)
-instructionOf (Read address n) bytes = Commands 0x08 (twoBytes address ++ n ∷ [])
-instructionOf ResetAddress bytes = AddressReset
-instructionOf Reset bytes = BoardReset
-
+-- what it asks
 abbrev pub instruction : Sending → Instruction
 instruction x = instructionOf (x .request) (x .bytes)
 

@@ -11,7 +11,8 @@ use Rattle.rules.specs.State.{fresh}
 use Rattle.rules.specs.Frames.{destination, numberAt, commandOf, argumentsOf, verdict}
 use Rattle.rules.specs.Commands.{performed}
 use Rattle.rules.specs.Board.{nothing, finishedCall, addressReset}
-use Rattle.roundtrip.specs.Sending.{Sending, Instruction, Commands, AddressReset, BoardReset, Given, bus, frame, call, instruction}
+use Rattle.rules.specs.Master.{Instruction, Commands, AddressReset, BoardReset}
+use Rattle.roundtrip.specs.Sending.{Sending, Given, bus, frame, call, instruction}
 
 -- what the frame is to the board
 abbrev pub verdictOn : Sending → Verdict

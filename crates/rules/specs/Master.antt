@@ -45,14 +45,30 @@ encodedLength FrameOutOfRange = 0
 encodedLength OutputTooShort = 0
 encodedLength ArgumentOutOfRange = 0
 
--- served commands, and the two general calls, which have no destination; the data bytes are a write's
+-- what a request asks: a command with its argument bytes, or one of the two general calls
+pub data Instruction : Type 0 where
+  Commands : ℕ → List ℕ → Instruction
+  AddressReset : Instruction
+  BoardReset : Instruction
+
+-- the instruction of each request; the data bytes are a write's
+abbrev pub instructionOf : Request → List ℕ → Instruction
+instructionOf (Plain code) bytes = Commands code []
+instructionOf (SetAddress address hardware) bytes = Commands 0x01 (address ∷ hardware ∷ [])
+instructionOf (Write address) bytes = Commands 0x06 (twoBytes address ++ bytes)
+instructionOf (Read address n) bytes = Commands 0x08 (twoBytes address ++ n ∷ [])
+instructionOf ResetAddress bytes = AddressReset
+instructionOf Reset bytes = BoardReset
+
+-- its bytes; the general calls have no destination
+abbrev pub instructionBytes : Bus → ℕ → Instruction → List ℕ
+instructionBytes bus destination (Commands code arguments) = request bus destination code arguments
+instructionBytes bus destination AddressReset = resetAddressFrame bus
+instructionBytes bus destination BoardReset = resetFrame bus
+
+-- the bytes of a request
 unfoldable pub requestBytes : Bus → Request → ℕ → List ℕ → List ℕ
-requestBytes bus (Plain code) destination bytes = request bus destination code []
-requestBytes bus (SetAddress address hardware) destination bytes = request bus destination 0x01 (address ∷ hardware ∷ [])
-requestBytes bus (Write address) destination bytes = request bus destination 0x06 (twoBytes address ++ bytes)
-requestBytes bus (Read address n) destination bytes = request bus destination 0x08 (twoBytes address ++ n ∷ [])
-requestBytes bus ResetAddress destination bytes = resetAddressFrame bus
-requestBytes bus Reset destination bytes = resetFrame bus
+requestBytes bus r destination bytes = instructionBytes bus destination (instructionOf r bytes)
 
 -- a bus address past 255, on I²C past 127
 abbrev pub addressOver : Bus → ℕ → Bool
@@ -70,6 +86,12 @@ commandWrong bus M destination code n =
     || (ltb M (shortestRequest bus + n)
     || (eqb destination 0 || addressOver bus destination))
 
+-- so for the command that an instruction has; the general calls have none
+abbrev pub instructionWrong : Bus → ℕ → ℕ → Instruction → Bool
+instructionWrong bus M destination (Commands code arguments) = commandWrong bus M destination code (length arguments)
+instructionWrong bus M destination AddressReset = false
+instructionWrong bus M destination BoardReset = false
+
 -- a new bus address over its range, a hardware type over 255
 abbrev pub setAddressWrong : Bus → ℕ → ℕ → Bool
 setAddressWrong bus address hardware = addressOver bus address || ltb 255 hardware
@@ -78,15 +100,18 @@ setAddressWrong bus address hardware = addressOver bus address || ltb 255 hardwa
 abbrev pub readWrong : Bus → ℕ → ℕ → ℕ → Bool
 readWrong bus M address n = flashAddressOver address || ltb (M - shortestReply bus) n
 
--- 7: request argument out of range, with n data bytes
-unfoldable pub argumentWrong : Bus → ℕ → Request → ℕ → ℕ → Bool
-argumentWrong bus M (Plain code) destination n = commandWrong bus M destination code 0
-argumentWrong bus M (SetAddress address hardware) destination n =
-    commandWrong bus M destination 0x01 2 || setAddressWrong bus address hardware
-argumentWrong bus M (Write address) destination n = commandWrong bus M destination 0x06 (2 + n) || flashAddressOver address
-argumentWrong bus M (Read address asked) destination n = commandWrong bus M destination 0x08 3 || readWrong bus M address asked
-argumentWrong bus M ResetAddress destination n = false
-argumentWrong bus M Reset destination n = false
+-- the numbers of each request out of range
+abbrev pub numbersWrong : Bus → ℕ → Request → Bool
+numbersWrong bus M (Plain code) = false
+numbersWrong bus M (SetAddress address hardware) = setAddressWrong bus address hardware
+numbersWrong bus M (Write address) = flashAddressOver address
+numbersWrong bus M (Read address n) = readWrong bus M address n
+numbersWrong bus M ResetAddress = false
+numbersWrong bus M Reset = false
+
+-- 7: request argument out of range: in the command that it asks for, or in its own numbers
+unfoldable pub argumentWrong : Bus → ℕ → Request → ℕ → List ℕ → Bool
+argumentWrong bus M r destination bytes = instructionWrong bus M destination (instructionOf r bytes) || numbersWrong bus M r
 
 -- nothing is made
 abbrev pub unmade : ℕ → Encoding
@@ -96,7 +121,7 @@ unmade number = record { number = number; bytes = [] }
 unfoldable pub encoded : Bus → ℕ → Request → ℕ → List ℕ → ℕ → Encoding
 encoded bus M r destination bytes outputLength =
     cond (not (frameInRange M)) (unmade 2)
-    (cond (argumentWrong bus M r destination (length bytes)) (unmade 7)
+    (cond (argumentWrong bus M r destination bytes) (unmade 7)
     (cond (ltb outputLength (length (requestBytes bus r destination bytes))) (unmade 6)
     (record { number = 0; bytes = requestBytes bus r destination bytes })))
 

@@ -33,6 +33,10 @@ frameInRange M = leb 32 M && leb M 256
 abbrev pub paged : ℕ → ℕ → Bool
 paged page n = eqb (n % page) 0
 
+-- the largest page that a profile in range has: as many bytes can wait
+abbrev pub largestPage : ℕ
+largestPage = 64
+
 -- page: 64 bytes
 abbrev pub pageInRange : ℕ → Bool
 pageInRange page = eqb page 64

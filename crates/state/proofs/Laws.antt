@@ -3,6 +3,8 @@
 use mathlib.Core.Path.{_≡_, refl}
 use mathlib.Core.Bool.{_&&_}
 use Prim.Native.Nat.{ℕ, _-_, _%_, _≤_}
+use native.Mathlib.Omega.{arith}
+use native.Mathlib.Nat.{mod-le}
 use lib.Dec.{leb}
 use lib.ListN.{length}
 use Rattle.rules.specs.State.{uploadFormed}
@@ -19,13 +21,16 @@ length-waiting u = length-used (u .held) (u .waiting)
 pub record HeldFacts (page S : ℕ) (u : Upload) : Type 0 where
   pub next-most : u .next ≤ S
   pub held-most : u .held ≤ u .next % page
+  pub held-next : u .held ≤ u .next
   pub count-most : u .count ≤ u .next - u .held
 
 pub upload-held : (page S : ℕ) (u : Upload) → UploadFacts page S (uploadOf u) → HeldFacts page S u
 upload-held page S u f =
+    let held : u .held ≤ u .next % page = rw (length-waiting u) at (f .waiting-most) in
     record {
       next-most = f .next-most;
-      held-most = rw (length-waiting u) at (f .waiting-most);
+      held-most = held;
+      held-next = omega (arith, mod-le (u .next) page);
       count-most = rw (length-waiting u) at (f .count-most);
     }
 

@@ -6,16 +6,20 @@ use mathlib.Core.List.{List}
 use Prim.Native.Nat.{ℕ}
 use lib.ListN.{replicate}
 use Rattle.rules.specs.declared.kinds.Address.the-variants.{DefaultRange}
+pub use Rattle.rules.specs.Profile.{largestPage}
 use Rattle.rules.specs.State as rules
 use Rattle.rules.specs.State.{used}
 use Rattle.state.specs.declared.Upload.{Upload}
 use Rattle.state.specs.declared.Last.{Last}
 use Rattle.state.specs.declared.State.{State}
 
--- the sizes that the state's own type has: `State::PAGE` and `State::LARGEST_FRAME`
-abbrev pub page : ℕ
+-- the sizes that the state's own type has; `State::LARGEST_PAGE` is the rules' largestPage
+
+-- page, `State::PAGE`, the one that every profile has; unfolded only where the code names it
+unfoldable pub page : ℕ
 page = 64
 
+-- the largest M, `State::LARGEST_FRAME`
 abbrev pub largestFrame : ℕ
 largestFrame = 256
 
@@ -33,7 +37,7 @@ abbrev pub zeroed : State
 zeroed = record {
   address = DefaultRange;
   running = false;
-  upload = record { next = 0; held = 0; count = 0; waiting = replicate page 0 };
+  upload = record { next = 0; held = 0; count = 0; waiting = replicate largestPage 0 };
   last = record { len = 0; bytes = replicate largestFrame 0 };
 }
 

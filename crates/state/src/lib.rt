@@ -17,7 +17,7 @@ pub struct Upload {
     pub next: usize,
     pub held: usize,
     pub count: usize,
-    pub waiting: [u8; State::PAGE],
+    pub waiting: [u8; State::LARGEST_PAGE],
 }
 
 // On I²C the last reply: the first `len` bytes of the buffer, 0 meaning none.
@@ -64,6 +64,8 @@ impl Last {
 impl State {
     // page: 64 bytes
     pub const PAGE: usize = 64;
+    // the largest page: as many bytes can wait
+    pub const LARGEST_PAGE: usize = 64;
     // the largest S
     pub const LARGEST_FLASH: usize = 65472;
     // the largest M
@@ -80,7 +82,7 @@ impl State {
                 next: 0,
                 held: 0,
                 count: 0,
-                waiting: [0u8; State::PAGE],
+                waiting: [0u8; State::LARGEST_PAGE],
             },
             last: Last {
                 len: 0,

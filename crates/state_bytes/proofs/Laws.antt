@@ -3,7 +3,7 @@
 use mathlib.Core.Path.{_≡_, refl, sym, ap, _∙_}
 use mathlib.Core.Bool.{true, false, cond, _&&_}
 use mathlib.Core.List.{List, [], _∷_, _++_, append-assoc}
-use Prim.Native.Nat.{ℕ, _+_, _≤_, _<_}
+use Prim.Native.Nat.{ℕ, _+_, _-_, _≤_, _<_}
 use native.Mathlib.Omega.{arith}
 use lib.Dec.{eqb, leb}
 use lib.ListN.{length, take, drop, getD, set, length-append}
@@ -18,10 +18,10 @@ use Rattle.rules.specs.Profile.{inRange}
 use Rattle.laws.proofs.StateLaws.{length-used, inRange-facts, wellFormed-facts}
 use Rattle.state.proofs.Laws.{upload-held, length-last}
 use Rattle.state.specs.declared.State.{State}
-use Rattle.state.specs.View.{page, largestFrame, view}
+use Rattle.state.specs.View.{largestPage, largestFrame, view}
 use Rattle.fields.specs.Fields.{Bytes, part, fourAt, fourBytes}
-use Rattle.state_bytes.specs.StateBytes.{stateSize, stateHeld, stateSaid, noState, stateAt, kindByte, ownByte, runningByte, headBytes}
-use Rattle.state_bytes.specs.StateBytes.{stateBytes, stateWritten}
+use Rattle.state_bytes.specs.StateBytes.{waitingFrom, replyFrom, stateSize, stateHeld, stateSaid, noState, stateAt, kindByte, ownByte}
+use Rattle.state_bytes.specs.StateBytes.{runningByte, headBytes, stateBytes, stateWritten}
 use Rattle.state_bytes.specs.BothWays.{StateFits}
 use Rattle.laws.proofs.TestLaws.{&&-true}
 use Rattle.fields.proofs.Laws.{drop-four, fourAt-fourBytes, part-four, part-more, overlay-first, overlay-laid, laid-part}
@@ -40,7 +40,7 @@ pub written-short : (s : State) (b : List ℕ) → length b < stateSize → stat
 unfolding stateWritten
 written-short s b h = rw (lt-leb _ _ h)
 
-pub length-stateBytes : (s : State) → length (s .upload .waiting) ≡ page → length (s .last .bytes) ≡ largestFrame
+pub length-stateBytes : (s : State) → length (s .upload .waiting) ≡ largestPage → length (s .last .bytes) ≡ largestFrame
     → length (stateBytes s) ≡ stateSize
 unfolding stateBytes
 length-stateBytes s waiting bytes = omega (arith, length-append (s .upload .waiting) (s .last .bytes))
@@ -79,10 +79,10 @@ stored-head s b k o r e0 e1 e2 e3 e4 =
     )
 
 -- those of `state_to`
-pub stored : (s : State) (b : List ℕ) {b0 b1 b2 : List ℕ} → length (s .upload .waiting) ≡ page → stateSize ≤ length b
+pub stored : (s : State) (b : List ℕ) {b0 b1 b2 : List ℕ} → length (s .upload .waiting) ≡ largestPage → stateSize ≤ length b
     → b0 ≡ laid (headBytes s) b
-    → b1 ≡ overlay b0 20 (s .upload .waiting)
-    → b2 ≡ overlay b1 84 (s .last .bytes)
+    → b1 ≡ overlay b0 waitingFrom (s .upload .waiting)
+    → b2 ≡ overlay b1 replyFrom (s .last .bytes)
     → b2 ≡ stateWritten s b
 unfolding stateBytes
 stored s b waiting long e0 e1 e2 =
@@ -90,8 +90,8 @@ stored s b waiting long e0 e1 e2 =
       e2,
       e1,
       e0,
-      overlay-laid (headBytes s) (s .upload .waiting) b 20 refl,
-      overlay-laid (headBytes s ++ s .upload .waiting) (s .last .bytes) b 84 (omega arith),
+      overlay-laid (headBytes s) (s .upload .waiting) b waitingFrom refl,
+      overlay-laid (headBytes s ++ s .upload .waiting) (s .last .bytes) b replyFrom (omega arith),
     )
     (sym (written-laid s b long))
 
@@ -107,11 +107,11 @@ module _ (s : State) (rest : List ℕ) (fits : StateFits s) where
   unfolding stateBytes
   bytes-said =
       let behind = append-assoc (s .upload .waiting) (s .last .bytes) rest in
-      let waiting : take page (s .upload .waiting ++ s .last .bytes ++ rest) ≡ s .upload .waiting =
-      ap (λ (l : List ℕ). take page l) behind ∙ take-at (s .upload .waiting) _ page (fits .waiting) in
-      let reply : take largestFrame (drop page (s .upload .waiting ++ s .last .bytes ++ rest)) ≡ s .last .bytes =
-      ap (λ (l : List ℕ). take largestFrame (drop page l)) behind
-      ∙ ap (λ (l : List ℕ). take largestFrame l) (drop-at (s .upload .waiting) _ page (fits .waiting))
+      let waiting : take largestPage (s .upload .waiting ++ s .last .bytes ++ rest) ≡ s .upload .waiting =
+      ap (λ (l : List ℕ). take largestPage l) behind ∙ take-at (s .upload .waiting) _ largestPage (fits .waiting) in
+      let reply : take largestFrame (drop largestPage (s .upload .waiting ++ s .last .bytes ++ rest)) ≡ s .last .bytes =
+      ap (λ (l : List ℕ). take largestFrame (drop largestPage l)) behind
+      ∙ ap (λ (l : List ℕ). take largestFrame l) (drop-at (s .upload .waiting) _ largestPage (fits .waiting))
       ∙ take-at (s .last .bytes) rest largestFrame (fits .bytes) in
       rw (
         addressOf-bytes (s .address),
@@ -125,7 +125,7 @@ module _ (s : State) (rest : List ℕ) (fits : StateFits s) where
       )
 
 -- next is at most S, w and the count at most next, a last reply at most M
-pub state-fits : (p : rules.Profile) (s : State) → length (s .upload .waiting) ≡ page → length (s .last .bytes) ≡ largestFrame
+pub state-fits : (p : rules.Profile) (s : State) → length (s .upload .waiting) ≡ largestPage → length (s .last .bytes) ≡ largestFrame
     → inRange p ≡ true
     → wellFormed p (view s) ≡ true → StateFits s
 state-fits p s waiting bytes range formed =
@@ -149,20 +149,21 @@ state-read s b fits long =
 -- the bytes of what bytes say, where they are long enough: from 4 on as they were
 said-bytes : (b : List ℕ) → Bytes b → stateSize ≤ length b
     → stateBytes (stateSaid b)
-    ≡ (kindByte (stateSaid b .address) ∷ ownByte (stateSaid b .address) ∷ runningByte (stateSaid b .running) ∷ 0 ∷ []) ++ part b 4 336
+    ≡ (kindByte (stateSaid b .address) ∷ ownByte (stateSaid b .address) ∷ runningByte (stateSaid b .running) ∷ 0 ∷ [])
+    ++ part b 4 (stateSize - 4)
 unfolding stateBytes
 said-bytes b bytes long =
     let front : List ℕ = kindByte (stateSaid b .address) ∷ ownByte (stateSaid b .address) ∷ runningByte (stateSaid b .running) ∷ 0 ∷ [] in
-    let waiting : List ℕ = part b 20 page in
-    let reply : List ℕ = part b 84 largestFrame in
+    let waiting : List ℕ = part b waitingFrom largestPage in
+    let reply : List ℕ = part b replyFrom largestFrame in
     ap (λ (l : List ℕ). l ++ fourBytes (fourAt b 8) ++ fourBytes (fourAt b 12) ++ fourBytes (fourAt b 16) ++ waiting ++ reply)
     (part-four front b 4 0 bytes (omega arith))
     ∙ ap (λ (l : List ℕ). l ++ fourBytes (fourAt b 12) ++ fourBytes (fourAt b 16) ++ waiting ++ reply)
     (part-four front b 4 4 bytes (omega arith))
     ∙ ap (λ (l : List ℕ). l ++ fourBytes (fourAt b 16) ++ waiting ++ reply) (part-four front b 4 8 bytes (omega arith))
     ∙ ap (λ (l : List ℕ). l ++ waiting ++ reply) (part-four front b 4 12 bytes (omega arith))
-    ∙ ap (λ (l : List ℕ). l ++ reply) (part-more front b 4 16 page)
-    ∙ part-more front b 4 80 largestFrame
+    ∙ ap (λ (l : List ℕ). l ++ reply) (part-more front b 4 (waitingFrom - 4) largestPage)
+    ∙ part-more front b 4 (replyFrom - 4) largestFrame
 
 pub state-kept : (b : List ℕ) → Bytes b → stateHeld b ≡ true
     → stateWritten (stateAt b) b ≡ set (set b 3 0) 1 (cond (eqb (getD b 0 0) 0) 0 (getD b 1 0))
@@ -177,7 +178,7 @@ state-kept b bytes held =
     written-laid (stateAt b) b long
     ∙ ap (λ (s : State). laid (stateBytes s) b) (said-at b held)
     ∙ ap (λ (l : List ℕ). laid l b) (said-bytes b bytes long)
-    ∙ laid-part front b 336 (omega arith)
+    ∙ laid-part front b (stateSize - 4) (omega arith)
     ∙ rw (
       kindByte-addressOf (getD b 0 0) (getD b 1 0) kind,
       ownByte-addressOf (getD b 0 0) (getD b 1 0) kind,

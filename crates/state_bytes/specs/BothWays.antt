@@ -8,7 +8,7 @@ use lib.ListN.{length, getD, set}
 use Rattle.rules.specs.Profile.{Profile, inRange}
 use Rattle.rules.specs.State.{wellFormed}
 use Rattle.state.specs.declared.State.{State}
-use Rattle.state.specs.View.{page, largestFrame, view}
+use Rattle.state.specs.View.{largestPage, largestFrame, view}
 use Rattle.fields.specs.Fields.{Bytes}
 use Rattle.state_bytes.specs.StateBytes.{stateSize, stateHeld, stateAt, stateWritten}
 
@@ -18,12 +18,12 @@ pub record StateFits (s : State) : Type 0 where
   pub held : s .upload .held < 2 ^ 32
   pub count : s .upload .count < 2 ^ 32
   pub len : s .last .len < 2 ^ 32
-  pub waiting : length (s .upload .waiting) ≡ page
+  pub waiting : length (s .upload .waiting) ≡ largestPage
   pub bytes : length (s .last .bytes) ≡ largestFrame
 
 pub record BothWays : Type 0 where
-  -- every state that is well formed under a profile in range fits; its arrays have 64 and 256 bytes
-  pub state-fits : (p : Profile) (s : State) → length (s .upload .waiting) ≡ page → length (s .last .bytes) ≡ largestFrame
+  -- every state that is well formed under a profile in range fits; its buffers have the largest page's and the largest M's length
+  pub state-fits : (p : Profile) (s : State) → length (s .upload .waiting) ≡ largestPage → length (s .last .bytes) ≡ largestFrame
       → inRange p ≡ true
       → wellFormed p (view s) ≡ true → StateFits s
   -- a state that was written is read back, every field and every buffer byte

@@ -1,21 +1,29 @@
--- The state in 340 bytes: which bytes hold one, which state they say, and the bytes of a state.
+-- The state in bytes: which bytes hold one, which state they say, and the bytes of a state.
 use mathlib.Core.Bool.{Bool, false, cond, _&&_}
 use mathlib.Core.List.{List, [], _∷_, _++_}
-use Prim.Native.Nat.{ℕ}
+use Prim.Native.Nat.{ℕ, _+_}
 use lib.Dec.{eqb, leb}
 use lib.ListN.{length, getD, replicate}
 use Rattle.rules.specs.declared.kinds.Address.{Address}
 use Rattle.rules.specs.declared.kinds.Address.the-variants.{DefaultRange, Own}
 use Rattle.rules.specs.Numbers.{laid}
 use Rattle.state.specs.declared.State.{State}
-use Rattle.state.specs.View.{page, largestFrame}
+use Rattle.state.specs.View.{largestPage, largestFrame}
 use Rattle.fields.specs.Fields.{part, fourAt, fourBytes}
+
+-- where the waiting bytes begin, `WAITING_AT`
+abbrev pub waitingFrom : ℕ
+waitingFrom = 20
+
+-- where the last reply begins, `REPLY_AT`
+abbrev pub replyFrom : ℕ
+replyFrom = waitingFrom + largestPage
 
 -- `STATE_BYTES`
 abbrev pub stateSize : ℕ
-stateSize = 340
+stateSize = replyFrom + largestFrame
 
--- byte 0 is an address kind and byte 2 says whether the board runs, each 0 or 1; bytes past the 340 mean nothing
+-- byte 0 is an address kind and byte 2 says whether the board runs, each 0 or 1; bytes past the state's mean nothing
 abbrev pub stateHeld : List ℕ → Bool
 stateHeld b = leb stateSize (length b) && (leb (getD b 0 0) 1 && leb (getD b 2 0) 1)
 
@@ -40,8 +48,8 @@ abbrev pub stateSaid : List ℕ → State
 stateSaid b = record {
   address = addressOf (getD b 0 0) (getD b 1 0);
   running = eqb (getD b 2 0) 1;
-  upload = record { next = fourAt b 4; held = fourAt b 8; count = fourAt b 12; waiting = part b 20 page };
-  last = record { len = fourAt b 16; bytes = part b 84 largestFrame };
+  upload = record { next = fourAt b 4; held = fourAt b 8; count = fourAt b 12; waiting = part b waitingFrom largestPage };
+  last = record { len = fourAt b 16; bytes = part b replyFrom largestFrame };
 }
 
 -- what bytes that hold no state read as: a byte waits before any was accepted, which is malformed
@@ -49,7 +57,7 @@ abbrev pub noState : State
 noState = record {
   address = DefaultRange;
   running = false;
-  upload = record { next = 0; held = 1; count = 0; waiting = replicate page 0 };
+  upload = record { next = 0; held = 1; count = 0; waiting = replicate largestPage 0 };
   last = record { len = 0; bytes = replicate largestFrame 0 };
 }
 

@@ -1,4 +1,4 @@
-// The state in 340 bytes, as it crosses the C boundary: include/childbus.h has the layout as a table, specs/ as definitions.
+// The state in bytes, as it crosses the C boundary: include/childbus.h has the layout as a table, specs/ as definitions.
 // Bytes that hold no state read as a malformed state, so that the board's own test answers them.
 use fields::four_at;
 use rules::kinds::Address;
@@ -8,12 +8,17 @@ use state::Upload;
 ghost use mathlib.Core.Path.{_≡_};
 ghost use Prim.Native.Nat.{_≤_};
 ghost use lib.ListN.{length};
+ghost use Rattle.state.specs.View.{largestPage, largestFrame};
 ghost use Rattle.fields.specs.Fields.{part};
 ghost use Rattle.state_bytes.specs.BothWays.{BothWays};
-ghost use Rattle.state_bytes.specs.StateBytes.{stateSize, stateSaid, noState, stateAt, addressOf};
+ghost use Rattle.state_bytes.specs.StateBytes.{waitingFrom, replyFrom, stateSize, stateSaid, noState, stateAt, addressOf};
 
-// How many bytes a state takes.
-pub const STATE_BYTES: usize = 340;
+// Where the buffer of the waiting bytes begins, that of the last reply, and how many bytes a state takes.
+pub const WAITING_AT: usize = 20;
+
+pub const REPLY_AT: usize = WAITING_AT + State::LARGEST_PAGE;
+
+pub const STATE_BYTES: usize = REPLY_AT + State::LARGEST_FRAME;
 
 // 0 default range, 1 own address.
 fn address_of(kind: u8, own: u8) -> Address
@@ -26,21 +31,21 @@ fn address_of(kind: u8, own: u8) -> Address
     }
 }
 
-fn waiting_at(b: &[u8]) -> [u8; State::PAGE]
+fn waiting_at(b: &[u8]) -> [u8; State::LARGEST_PAGE]
     requires { ⌜ stateSize ≤ length (now b) ⌝ }
-    ensures { λ r. ⌜ r ≡ part (now (b .entry)) 20 64 ⌝ }
+    ensures { λ r. ⌜ r ≡ part (now (b .entry)) waitingFrom largestPage ⌝ }
 {
-    let mut waiting = [0u8; State::PAGE];
-    flash::store(&mut waiting, 0, &b[20..84]);
+    let mut waiting = [0u8; State::LARGEST_PAGE];
+    flash::store(&mut waiting, 0, &b[WAITING_AT..REPLY_AT]);
     waiting
 }
 
 fn reply_at(b: &[u8]) -> [u8; State::LARGEST_FRAME]
     requires { ⌜ stateSize ≤ length (now b) ⌝ }
-    ensures { λ r. ⌜ r ≡ part (now (b .entry)) 84 256 ⌝ }
+    ensures { λ r. ⌜ r ≡ part (now (b .entry)) replyFrom largestFrame ⌝ }
 {
     let mut reply = [0u8; State::LARGEST_FRAME];
-    flash::store(&mut reply, 0, &b[84..340]);
+    flash::store(&mut reply, 0, &b[REPLY_AT..STATE_BYTES]);
     reply
 }
 
@@ -78,7 +83,7 @@ fn no_state() -> State
             next: 0,
             held: 1,
             count: 0,
-            waiting: [0u8; State::PAGE],
+            waiting: [0u8; State::LARGEST_PAGE],
         },
         last: Last {
             len: 0,

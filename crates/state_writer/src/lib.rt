@@ -1,8 +1,10 @@
-// Writes the state into its 340 bytes. The layout, and reading it, is `state_bytes`.
+// Writes the state into its bytes. The layout, and reading it, is `state_bytes`.
 use fields::store_four;
 use rules::kinds::Address;
 use state::State;
+use state_bytes::REPLY_AT;
 use state_bytes::STATE_BYTES;
+use state_bytes::WAITING_AT;
 ghost use mathlib.Core.Path.{_≡_};
 ghost use Prim.Native.Nat.{_≤_};
 ghost use lib.ListN.{length};
@@ -62,7 +64,7 @@ pub fn state_to(s: State, b: &mut [u8])
     }
     store_head(s, b);
     let waiting = s.upload.waiting;
-    flash::store(b, 20, &waiting);
+    flash::store(b, WAITING_AT, &waiting);
     let bytes = s.last.bytes;
-    flash::store(b, 84, &bytes);
+    flash::store(b, REPLY_AT, &bytes);
 }

@@ -3,7 +3,7 @@
 use commit::commit_counted;
 use commit::part;
 use profile::Profile;
-use state::State;
+use profile::page;
 use state::Upload;
 ghost use mathlib.Core.Path.{_≡_};
 ghost use Prim.Native.Nat.{_+_, _≤_, _<_};
@@ -19,19 +19,20 @@ pub fn take(p: Profile, u: Upload, bytes: &[u8], flash: &mut [u8]) -> Upload
     ensures { λ r. ⌜ progressOf r (now (flash .exit)) ≡ takenAll (profileOf p) (progressOf u (now (flash .entry))) (now (bytes .entry)) ⌝ }
     ensures { λ r. ⌜ Formed p r (u .next + length (now (bytes .entry))) ⌝ }
 {
+    let page = page(p);
     let mut next = u.next;
     let mut held = u.held;
     let mut count = u.count;
     let mut waiting = u.waiting;
     let mut i = 0;
     while i < bytes.len() {
-        let n = part(next, bytes.len() - i);
+        let n = part(page, next, bytes.len() - i);
         let end = i + n;
         flash::store(&mut waiting, held, &bytes[i..end]);
         i = end;
         next += n;
         held += n;
-        if next % State::PAGE == 0 {
+        if next % page == 0 {
             count = commit_counted(flash, p.offset + (next - held), &waiting[..held], count);
             held = 0;
         }

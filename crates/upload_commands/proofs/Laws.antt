@@ -16,8 +16,9 @@ use Rattle.laws.proofs.TestLaws.{&&-true}
 use Rattle.laws.proofs.StateLaws.{uploadFormed-facts, facts-uploadFormed}
 use Rattle.state.specs.declared.State.{State}
 use Rattle.state.specs.declared.Upload.{Upload}
-use Rattle.state.specs.View.{page, uploadOf}
+use Rattle.state.specs.View.{uploadOf}
 use Rattle.profile.specs.declared.Profile.{Profile}
+use Rattle.profile.specs.View.{profileOf}
 use Rattle.response.specs.Done.{Serving}
 use Rattle.commit.specs.Progress.{Ready, Formed}
 
@@ -26,17 +27,17 @@ pub take-rest : (args : List ℕ) (k : ℕ) → take (length args - k) (drop k a
 take-rest args k = take-all (length args - k) (drop k args) (rw length-drop (omega arith))
 
 module _ (p : Profile) (s : State) (n m at : ℕ) (serving : Serving p s n m at) where
-  pub upload-formed : uploadFormed page (p .size) (uploadOf (s .upload)) ≡ true
-  upload-formed = facts-uploadFormed page (p .size) (uploadOf (s .upload)) (serving .unrefused .state .upload)
+  pub upload-formed : uploadFormed (profileOf p .page) (p .size) (uploadOf (s .upload)) ≡ true
+  upload-formed = facts-uploadFormed (profileOf p .page) (p .size) (uploadOf (s .upload)) (serving .unrefused .state .upload)
 
   -- an upload that is formed goes on
-  pub ready : (u : Upload) → uploadFormed page (p .size) (uploadOf u) ≡ true → Ready p u n
+  pub ready : (u : Upload) → uploadFormed (profileOf p .page) (p .size) (uploadOf u) ≡ true → Ready p u n
   ready u formed = record { in-range = serving .unrefused .in-range; flash-holds = serving .unrefused .flash-holds; formed = formed }
 
   -- the erase count fits two bytes
   pub count-most : (u : Upload) (next : ℕ) → Formed p u next → u .count ≤ 65535
   count-most u next formed =
-      let f = uploadFormed-facts page (p .size) (uploadOf u) (formed .formed) in
+      let f = uploadFormed-facts (profileOf p .page) (p .size) (uploadOf u) (formed .formed) in
       omega (arith, f .count-most, f .next-most, serving .unrefused .profile .size-most)
 
 -- an upload that begins anew, or goes on, is formed

@@ -5,7 +5,6 @@ use Prim.Native.Nat.{ℕ, _*_}
 use lib.ListN.{length, take, drop}
 use Rattle.rules.specs.Bytes.{same}
 use Rattle.byte_parts.specs.Parts.{part}
-use Rattle.state.specs.View.{page}
 use Rattle.upload_ends.specs.declared.UploadEnd.{UploadEnd}
 use Rattle.upload_ends.specs.declared.UploadEnd.the-variants.{Whole, Partly, Unchanged}
 
@@ -21,5 +20,5 @@ uploadEnd O S image earlier flash =
     (cond (same (part O S earlier) (part O S flash)) Unchanged Partly)
 
 -- page k of the working flash has changed
-unfoldable pub pageChanged : ℕ → ℕ → List ℕ → List ℕ → Bool
-pageChanged O k earlier flash = not (same (part (k * page) page (drop O earlier)) (part (k * page) page (drop O flash)))
+unfoldable pub pageChanged : ℕ → ℕ → ℕ → List ℕ → List ℕ → Bool
+pageChanged page O k earlier flash = not (same (part (k * page) page (drop O earlier)) (part (k * page) page (drop O flash)))

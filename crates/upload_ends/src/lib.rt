@@ -4,7 +4,7 @@ use byte_parts::from;
 use flash::matches;
 use state::State;
 ghost use mathlib.Core.Path.{_≡_};
-ghost use Prim.Native.Nat.{_*_};
+ghost use Prim.Native.Nat.{_*_, _<_};
 ghost use Rattle.byte_parts.specs.Parts.{part};
 ghost use Rattle.state.specs.View.{page};
 ghost use Rattle.upload_ends.specs.Ends.{beginsWith, uploadEnd, pageChanged};
@@ -54,21 +54,22 @@ pub fn upload_end(
 }
 
 // Page k of the bytes; none where that lies past the end.
-fn page_of<'a>(bytes: &'a [u8], k: usize) -> &'a [u8]
+fn page_of<'a>(page: usize, bytes: &'a [u8], k: usize) -> &'a [u8]
+    requires { ⌜ 0 < page ⌝ }
     ensures { λ r. ⌜ now r ≡ part (k * page) page (now (bytes .entry)) ⌝ }
 {
-    if bytes.len() / State::PAGE < k {
+    if bytes.len() / page < k {
         return &bytes[0..0];
     }
-    part_of(bytes, k * State::PAGE, State::PAGE)
+    part_of(bytes, k * page, page)
 }
 
 // Whether page k of the working flash has changed.
 pub fn page_changed(offset: usize, k: usize, earlier: &[u8], flash: &[u8]) -> bool
-    ensures { λ r. ⌜ r ≡ pageChanged offset k (now (earlier .entry)) (now (flash .entry)) ⌝ }
+    ensures { λ r. ⌜ r ≡ pageChanged page offset k (now (earlier .entry)) (now (flash .entry)) ⌝ }
 {
     !matches(
-        page_of(from(earlier, offset), k),
-        page_of(from(flash, offset), k),
+        page_of(State::PAGE, from(earlier, offset), k),
+        page_of(State::PAGE, from(flash, offset), k),
     )
 }

@@ -1,8 +1,8 @@
 // Document 01, "Frames and check sums": what a received frame is to a board, by name, before the answer has its number.
 use framing::i2c_framing;
 use framing::rs485_framing;
-use general_calls::is_reset;
-use general_calls::is_reset_address;
+use general_calls::General;
+use general_calls::is_general;
 use rules::kinds::Address;
 use rules::kinds::Bus;
 use rules::kinds::Reason;
@@ -21,13 +21,13 @@ pub fn classify(
 ) -> Verdict
     ensures { λ r. ⌜ r ≡ verdict bus longest running own to (now (frame .entry)) ⌝ }
 {
-    if is_reset(bus, to, frame) {
+    if is_general(bus, to, frame, General::Reset) {
         return Verdict::Reset;
     }
     if running {
         return Verdict::Ignored(Reason::Running);
     }
-    if is_reset_address(bus, to, frame) {
+    if is_general(bus, to, frame, General::ResetAddress) {
         return Verdict::ResetAddress;
     }
     match bus {

@@ -5,7 +5,7 @@ use native.Mathlib.Omega.{arith}
 use lib.ListN.{length, length-take}
 use borrow.Author.Needs.{needs}
 use Rattle.laws.proofs.UploadLaws.{sub-mod}
-use Rattle.state.specs.View.{page}
+use Rattle.state.specs.View.{largestPage}
 use Rattle.profile.specs.View.{profileOf}
 use Rattle.commit.proofs.Laws.{ready-bounds, fitting, committed-counted, finalized-none, finalized-some, finalized-formed}
 use Rattle.finalize.proofs.finalize.Statement.{statement}
@@ -33,21 +33,21 @@ array-share-prefix-waiting : tie.Need-array-share-prefix-waiting
 array-share-prefix-waiting c =
     let start = c .before .before .before .before in
     let b = ready-bounds (start .pre) in
-    let h : length (start .args .u .waiting) ≡ page = search needs in
+    let h : length (start .args .u .waiting) ≡ largestPage = search needs in
     omega arith
 
 slice-aggregate-commit-counted : tie.Need-slice-aggregate-commit-counted
 slice-aggregate-commit-counted c =
     let start = c .before .before .before .before .before in
     let b = ready-bounds (start .pre) in
-    let h : length (start .args .u .waiting) ≡ page = search needs in
+    let h : length (start .args .u .waiting) ≡ largestPage = search needs in
     simp length-take (omega arith)
 
 commit-counted-requires : tie.Need-commit-counted-requires
 commit-counted-requires c κs =
     let start = c .before .before .before .before .before in
     let b = ready-bounds (start .pre) in
-    let h : length (start .args .u .waiting) ≡ page = search needs in
+    let h : length (start .args .u .waiting) ≡ largestPage = search needs in
     simp length-take (omega arith)
 
 same-length : tie.Need-same-length
@@ -61,9 +61,9 @@ returns-2 c =
     let d = start .args .flash .now in
     let b = ready-bounds (start .pre) in
     let some = c .before .before .before .before .before .before .if1 .left in
-    let place = sub-mod page (u .next) (u .held) (omega arith) (b .held .held-most) in
+    let place = sub-mod (profileOf p .page) (u .next) (u .held) (b .profile .page-least) (b .held .held-most) in
     let lies = fitting p u d (b .profile) (start .pre .flash-holds) (b .held .next-most) (omega arith) (omega arith) in
-    let h : length (u .waiting) ≡ page = search needs in
+    let h : length (u .waiting) ≡ largestPage = search needs in
     let done =
     sym (finalized-some (profileOf p) u d some ∙ committed-counted p u lies (omega arith) (c .before .before .commit-counted .ensures)) in
     (done, finalized-formed d (start .pre) _ done)

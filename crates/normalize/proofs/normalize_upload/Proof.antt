@@ -6,22 +6,22 @@ use lib.ListN.{length, take, length-set}
 use borrow.Author.Needs.{needs}
 use Rattle.rules.specs.State.{used}
 use Rattle.normalize.proofs.NormalizeLaws.{used-stays, used-turn, used-end, normalized-upload}
-use Rattle.state.specs.View.{page}
+use Rattle.state.specs.View.{largestPage}
 use Rattle.normalize.proofs.normalize_upload.Statement.{statement}
 use Rattle.normalize.proofs.normalize_upload.Tie as tie
 
 abbrev Inv-loop : tie.InvT-loop
 Inv-loop u₀ k₀ u k =
-    (u .next ≡ u₀ .next) × (u .held ≡ u₀ .held) × (u .count ≡ u₀ .count) × (length (u .waiting) ≡ page) × (u₀ .held ≤ k)
-    × (take k (u .waiting) ≡ take k (used page (used (u₀ .held) (u₀ .waiting))))
+    (u .next ≡ u₀ .next) × (u .held ≡ u₀ .held) × (u .count ≡ u₀ .count) × (length (u .waiting) ≡ largestPage) × (u₀ .held ≤ k)
+    × (take k (u .waiting) ≡ take k (used largestPage (used (u₀ .held) (u₀ .waiting))))
 
 abbrev μ-loop : tie.MeasureT-loop
-μ-loop u₀ k₀ u k = page - k
+μ-loop u₀ k₀ u k = largestPage - k
 
 loop-holds : tie.Need-loop-holds Inv-loop μ-loop
 loop-holds c =
-    let long : length (c .args .t1 .waiting) ≡ page = search needs in
-    (refl, refl, refl, long, omega arith, used-stays page (c .args .t1 .held) (c .args .t1 .waiting) long)
+    let long : length (c .args .t1 .waiting) ≡ largestPage = search needs in
+    (refl, refl, refl, long, omega arith, used-stays largestPage (c .args .t1 .held) (c .args .t1 .waiting) long)
 
 element-write-u : tie.Need-element-write-u Inv-loop μ-loop
 element-write-u c = search needs
@@ -36,16 +36,17 @@ loop-again : tie.Need-loop-again Inv-loop μ-loop
 loop-again c =
     let turn = c .before .loop in
     let start = c .before .before in
-    let long : length (start .args .t1 .waiting) ≡ page = search needs in
-    let another = used-turn page _ _ long (turn .k) (turn .u .waiting) (turn .inv .3) (turn .inv .4) (c .loop-test .taken) (turn .inv .5) in
+    let long : length (start .args .t1 .waiting) ≡ largestPage = search needs in
+    let another =
+    used-turn largestPage _ _ long (turn .k) (turn .u .waiting) (turn .inv .3) (turn .inv .4) (c .loop-test .taken) (turn .inv .5) in
     (turn .inv .0, turn .inv .1, turn .inv .2, simp length-set (turn .inv .3), omega arith, another)
 
 returns : tie.Need-returns Inv-loop μ-loop
 returns c =
     let turn = c .before .loop in
     let start = c .before .before in
-    let long : length (start .args .t1 .waiting) ≡ page = search needs in
-    let zeros = used-end page _ _ long (turn .k) (turn .u .waiting) (turn .inv .3) (c .loop-test .left) (turn .inv .5) in
+    let long : length (start .args .t1 .waiting) ≡ largestPage = search needs in
+    let zeros = used-end largestPage _ _ long (turn .k) (turn .u .waiting) (turn .inv .3) (c .loop-test .left) (turn .inv .5) in
     normalized-upload (start .args .t1) (turn .inv .0) (turn .inv .1) (turn .inv .2) zeros
 
 pub normalize-upload-spec : {M : Type 1} → statement M

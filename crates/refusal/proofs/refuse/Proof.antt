@@ -1,83 +1,86 @@
--- `refusal::refuse` meets its contract: its four tests are those of `refusal`, in the same order (`refusal-firstOf`).
-use mathlib.Core.Path.{refl}
+-- `refusal::refuse` meets its contract: its four tests are those of `refusal`, in the same order.
+use mathlib.Core.Path.{sym, _∙_}
 use borrow.Author.Needs.{needs}
+use Rattle.rules.specs.Numbers.{refusal}
+use Rattle.profile.proofs.Laws.{answered-false, answered-true}
 use Rattle.refusal.specs.Checks.{checkOf}
-use Rattle.refusal.proofs.Laws.{refusal-firstOf}
 use Rattle.refusal.proofs.refuse.Statement.{statement}
 use Rattle.refusal.proofs.refuse.Tie as tie
 
 in-range-requires : tie.Need-in-range-requires
 in-range-requires c κs = search needs
 
+returns : tie.Need-returns
+unfolding refusal checkOf
+returns c = rw (answered-false (c .before .in-range .ensures) (c .if1 .taken))
+
 flash-short-requires : tie.Need-flash-short-requires
 flash-short-requires c κs = search needs
 
+returns-2 : tie.Need-returns-2
+unfolding refusal checkOf
+returns-2 c =
+    let ranged = c .before .before in
+    rw (
+      answered-true (ranged .before .in-range .ensures) (ranged .if1 .left),
+      sym (c .before .flash-short .ensures) ∙ c .if2 .taken,
+    )
+
 well-formed-requires : tie.Need-well-formed-requires
-well-formed-requires c κs = search needs
+well-formed-requires c κs =
+    let ranged = c .before .before in
+    answered-true (ranged .before .in-range .ensures) (ranged .if1 .left)
+
+returns-3 : tie.Need-returns-3
+unfolding refusal checkOf
+returns-3 c =
+    let held = c .before .before in
+    let ranged = held .before .before in
+    rw (
+      answered-true (ranged .before .in-range .ensures) (ranged .if1 .left),
+      sym (held .before .flash-short .ensures) ∙ held .if2 .left,
+      answered-false (c .before .well-formed .ensures) (c .if3 .taken),
+    )
 
 buffer-short-requires : tie.Need-buffer-short-requires
 buffer-short-requires c κs = search needs
 
-returns : tie.Need-returns
-unfolding checkOf
-returns c =
-    let calls = c .before in
-    let ranged = calls .before .before .before .in-range .ensures in
-    let short = calls .before .before .flash-short .ensures in
-    let formed = calls .before .well-formed .ensures in
-    let tests = refusal-firstOf _ _ _ _ ranged short formed (calls .buffer-short .ensures) in
-    rw (tests, c .if1 .taken)
-
-returns-2 : tie.Need-returns-2
-unfolding checkOf
-returns-2 c =
-    let calls = c .before .before in
-    let ranged = calls .before .before .before .in-range .ensures in
-    let short = calls .before .before .flash-short .ensures in
-    let formed = calls .before .well-formed .ensures in
-    let tests = refusal-firstOf _ _ _ _ ranged short formed (calls .buffer-short .ensures) in
-    rw (tests, c .before .if1 .left, c .if2 .taken)
-
-returns-3 : tie.Need-returns-3
-unfolding checkOf
-returns-3 c =
-    let calls = c .before .before .before in
-    let ranged = calls .before .before .before .in-range .ensures in
-    let short = calls .before .before .flash-short .ensures in
-    let formed = calls .before .well-formed .ensures in
-    let tests = refusal-firstOf _ _ _ _ ranged short formed (calls .buffer-short .ensures) in
-    rw (tests, c .before .before .if1 .left, c .before .if2 .left, c .if3 .taken)
-
 returns-4 : tie.Need-returns-4
-unfolding checkOf
+unfolding refusal checkOf
 returns-4 c =
-    let calls = c .before .before .before .before in
-    let ranged = calls .before .before .before .in-range .ensures in
-    let short = calls .before .before .flash-short .ensures in
-    let formed = calls .before .well-formed .ensures in
-    let tests = refusal-firstOf _ _ _ _ ranged short formed (calls .buffer-short .ensures) in
-    rw (tests, c .before .before .before .if1 .left, c .before .before .if2 .left, c .before .if3 .left, c .if4 .taken)
+    let formed = c .before .before in
+    let held = formed .before .before in
+    let ranged = held .before .before in
+    rw (
+      answered-true (ranged .before .in-range .ensures) (ranged .if1 .left),
+      sym (held .before .flash-short .ensures) ∙ held .if2 .left,
+      answered-true (formed .before .well-formed .ensures) (formed .if3 .left),
+      sym (c .before .buffer-short .ensures) ∙ c .if4 .taken,
+    )
 
 returns-5 : tie.Need-returns-5
-unfolding checkOf
+unfolding refusal checkOf
 returns-5 c =
-    let calls = c .before .before .before .before in
-    let ranged = calls .before .before .before .in-range .ensures in
-    let short = calls .before .before .flash-short .ensures in
-    let formed = calls .before .well-formed .ensures in
-    let tests = refusal-firstOf _ _ _ _ ranged short formed (calls .buffer-short .ensures) in
-    rw (tests, c .before .before .before .if1 .left, c .before .before .if2 .left, c .before .if3 .left, c .if4 .left)
+    let formed = c .before .before in
+    let held = formed .before .before in
+    let ranged = held .before .before in
+    rw (
+      answered-true (ranged .before .in-range .ensures) (ranged .if1 .left),
+      sym (held .before .flash-short .ensures) ∙ held .if2 .left,
+      answered-true (formed .before .well-formed .ensures) (formed .if3 .left),
+      sym (c .before .buffer-short .ensures) ∙ c .if4 .left,
+    )
 
 pub refuse-spec : {M : Type 1} → statement M
 refuse-spec =
     tie.close
     (tie.spec
     in-range-requires
-    flash-short-requires
-    well-formed-requires
-    buffer-short-requires
     returns
+    flash-short-requires
     returns-2
+    well-formed-requires
     returns-3
+    buffer-short-requires
     returns-4
     returns-5)

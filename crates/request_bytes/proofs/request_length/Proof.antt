@@ -1,4 +1,6 @@
 -- `request_bytes::request_length` meets its contract: each arm is the line of the definition for its request.
+use mathlib.Core.Path.{sym}
+use native.Mathlib.Nat.{add-zero}
 use native.Mathlib.Omega.{arith}
 use borrow.Author.Needs.{needs}
 use Rattle.laws.proofs.FrameLaws.{shortestRequest-le}
@@ -15,22 +17,22 @@ enum-told-2 : tie.Need-enum-told-2
 enum-told-2 c = search needs
 
 add-result : tie.Need-add-result
-add-result c = omega (arith, c .before .before .shortest-request .ensures, shortestRequest-le (c .before .before .before .args .bus))
+add-result c = omega (arith, c .before .before .shortest-request .ensures, shortestRequest-le (c .before .before .before .before .args .bus))
 
 enum-told-3 : tie.Need-enum-told-3
 enum-told-3 c = search needs
 
 add-result-2 : tie.Need-add-result-2
-add-result-2 c = omega (arith, c .before .before .shortest-request .ensures, shortestRequest-le (c .before .before .before .args .bus))
+add-result-2 c = omega (arith, c .before .before .shortest-request .ensures, shortestRequest-le (c .before .before .before .before .args .bus))
 
 add-result-3 : tie.Need-add-result-3
-add-result-3 c = omega (arith, c .before .before .shortest-request .ensures, shortestRequest-le (c .before .before .before .args .bus))
+add-result-3 c = omega (arith, c .before .before .shortest-request .ensures, shortestRequest-le (c .before .before .before .before .args .bus))
 
 enum-told-4 : tie.Need-enum-told-4
 enum-told-4 c = search needs
 
 add-result-4 : tie.Need-add-result-4
-add-result-4 c = omega (arith, c .before .before .shortest-request .ensures, shortestRequest-le (c .before .before .before .args .bus))
+add-result-4 c = omega (arith, c .before .before .shortest-request .ensures, shortestRequest-le (c .before .before .before .before .args .bus))
 
 enum-told-5 : tie.Need-enum-told-5
 enum-told-5 c = search needs
@@ -45,13 +47,13 @@ general-length-requires-2 : tie.Need-general-length-requires-2
 general-length-requires-2 c κs = search needs
 
 returns : tie.Need-returns
-returns c = rw (c .enum-told .given .1, c .before .before .shortest-request .ensures)
+returns c = rw (c .enum-told .given .1, c .before .before .shortest-request .ensures) (sym (add-zero _))
 
 returns-2 : tie.Need-returns-2
 returns-2 c = rw (c .enum-told2 .given .1, c .before .before .shortest-request .ensures)
 
 returns-3 : tie.Need-returns-3
-returns-3 c = rw (c .enum-told3 .given .1, c .before .before .shortest-request .ensures)
+returns-3 c = rw (c .enum-told3 .given .1, c .before .before .shortest-request .ensures) (omega arith)
 
 returns-4 : tie.Need-returns-4
 returns-4 c = rw (c .enum-told4 .given .1, c .before .before .shortest-request .ensures)

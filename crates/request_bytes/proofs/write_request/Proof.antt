@@ -15,7 +15,7 @@ write-command-requires : tie.Need-write-command-requires
 write-command-requires c κs =
     let start = c .before .before .before .before .before .before .before in
     let pre = rw (c .before .before .request .given .1) at (start .pre) in
-    (pre .0 .0, pre .0 .1, omega (arith, pre .1))
+    (pre .0 .0, pre .0 .1, omega (arith, pre .2))
 
 enum-known-request-2 : tie.Need-enum-known-request-2
 enum-known-request-2 c = search needs
@@ -24,13 +24,13 @@ cast-t20 : tie.Need-cast-t20
 cast-t20 c =
     let start = c .before .before .before .before .before .before in
     let pre = rw (c .before .request2 .given .1) at (start .pre) in
-    omega (arith, pre .0 .1)
+    omega (arith, pre .1 .0)
 
 cast-t21 : tie.Need-cast-t21
 cast-t21 c =
     let start = c .before .before .before .before .before .before in
     let pre = rw (c .before .request2 .given .1) at (start .pre) in
-    omega (arith, pre .0 .2)
+    omega (arith, pre .1 .1)
 
 slice-aggregate-write-command : tie.Need-slice-aggregate-write-command
 slice-aggregate-write-command c = search needs
@@ -39,7 +39,7 @@ write-command-requires-2 : tie.Need-write-command-requires-2
 write-command-requires-2 c κs =
     let start = c .before .before .before .before .before .before .before .before in
     let pre = rw (c .before .before .before .request2 .given .1) at (start .pre) in
-    (pre .0 .0, omega arith, omega (arith, pre .1))
+    (pre .0 .0, omega arith, omega (arith, pre .2))
 
 enum-known-request-3 : tie.Need-enum-known-request-3
 enum-known-request-3 c = search needs
@@ -48,7 +48,7 @@ cast-t27 : tie.Need-cast-t27
 cast-t27 c =
     let start = c .before .before .before .before .before .before in
     let pre = rw (c .before .request3 .given .1) at (start .pre) in
-    omega (arith, pre .0 .1)
+    omega (arith, pre .1)
 
 cast-t29 : tie.Need-cast-t29
 cast-t29 c = search needs
@@ -60,7 +60,7 @@ write-command-requires-3 : tie.Need-write-command-requires-3
 write-command-requires-3 c κs =
     let start = c .before .before .before .before .before .before .before .before in
     let pre = rw (c .before .before .before .request3 .given .1) at (start .pre) in
-    (pre .0 .0, omega arith, omega (arith, pre .1))
+    (pre .0 .0, omega arith, omega (arith, pre .2))
 
 enum-known-request-4 : tie.Need-enum-known-request-4
 enum-known-request-4 c = search needs
@@ -69,7 +69,7 @@ cast-t35 : tie.Need-cast-t35
 cast-t35 c =
     let start = c .before .before .before .before .before .before in
     let pre = rw (c .before .request4 .given .1) at (start .pre) in
-    omega (arith, pre .0 .1)
+    omega (arith, pre .1 .0)
 
 cast-t37 : tie.Need-cast-t37
 cast-t37 c = search needs
@@ -78,7 +78,7 @@ cast-t38 : tie.Need-cast-t38
 cast-t38 c =
     let start = c .before .before .before .before .before .before in
     let pre = rw (c .before .request4 .given .1) at (start .pre) in
-    omega (arith, pre .0 .2)
+    omega (arith, pre .1 .1)
 
 slice-aggregate-write-command-3 : tie.Need-slice-aggregate-write-command-3
 slice-aggregate-write-command-3 c = search needs
@@ -87,25 +87,25 @@ write-command-requires-4 : tie.Need-write-command-requires-4
 write-command-requires-4 c κs =
     let start = c .before .before .before .before .before .before .before .before in
     let pre = rw (c .before .before .before .request4 .given .1) at (start .pre) in
-    (pre .0 .0, omega arith, omega (arith, pre .1))
+    (pre .0 .0, omega arith, omega (arith, pre .2))
 
 enum-told : tie.Need-enum-told
 enum-told c = search needs
 
-write-reset-address-requires : tie.Need-write-reset-address-requires
-write-reset-address-requires c κs =
+write-general-requires : tie.Need-write-general-requires
+write-general-requires c κs =
     let start = c .before .before .before .before .before .before in
     let pre = rw (c .before .enum-told .given .1) at (start .pre) in
-    pre .1
+    pre .2
 
 enum-told-2 : tie.Need-enum-told-2
 enum-told-2 c = search needs
 
-write-reset-requires : tie.Need-write-reset-requires
-write-reset-requires c κs =
+write-general-requires-2 : tie.Need-write-general-requires-2
+write-general-requires-2 c κs =
     let start = c .before .before .before .before .before .before in
     let pre = rw (c .before .enum-told2 .given .1) at (start .pre) in
-    pre .1
+    pre .2
 
 same-length : tie.Need-same-length
 same-length c = search needs
@@ -150,7 +150,8 @@ returns-5 : tie.Need-returns-5
 unfolding requestBytes
 returns-5 c =
     let written = c .before .before in
-    rw (written .before .before .enum-told .given .1) (written .write-reset-address .ensures)
+    let said = written .write-general .ensures in
+    rw (written .before .before .enum-told .given .1) (record { length-is = said .0; output-is = said .1 })
 
 same-length-6 : tie.Need-same-length-6
 same-length-6 c = search needs
@@ -159,7 +160,8 @@ returns-6 : tie.Need-returns-6
 unfolding requestBytes
 returns-6 c =
     let written = c .before .before in
-    rw (written .before .before .enum-told2 .given .1) (written .write-reset .ensures)
+    let said = written .write-general2 .ensures in
+    rw (written .before .before .enum-told2 .given .1) (record { length-is = said .0; output-is = said .1 })
 
 pub write-request-spec : {M : Type 1} → statement M
 write-request-spec =
@@ -185,9 +187,9 @@ write-request-spec =
     slice-aggregate-write-command-3
     write-command-requires-4
     enum-told
-    write-reset-address-requires
+    write-general-requires
     enum-told-2
-    write-reset-requires
+    write-general-requires-2
     same-length
     returns
     same-length-2

@@ -1,4 +1,8 @@
 -- `request_range::argument_wrong` meets its contract: each arm is the line of the definition for its request.
+use mathlib.Core.Path.{sym}
+use mathlib.Core.Bool.{or-false}
+use native.Mathlib.Numerals.{add-two}
+use lib.ListN.{length}
 use borrow.Author.Needs.{needs}
 use Rattle.rules.specs.Master.{argumentWrong}
 use Rattle.request_range.proofs.argument_wrong.Statement.{statement}
@@ -45,7 +49,7 @@ enum-told-2 c = search needs
 
 returns : tie.Need-returns
 unfolding argumentWrong
-returns c = rw (c .before .before .request .given .1, c .command-wrong .ensures)
+returns c = rw (c .before .before .request .given .1, c .command-wrong .ensures) (sym (or-false _))
 
 returns-2 : tie.Need-returns-2
 unfolding argumentWrong
@@ -59,11 +63,15 @@ returns-3 c =
 
 returns-4 : tie.Need-returns-4
 unfolding argumentWrong
-returns-4 c = rw (c .before .before .before .request3 .given .1, ← c .before .command-wrong3 .ensures, c .if2 .taken)
+returns-4 c =
+    let start = c .before .before .before .before .before .before in
+    rw (c .before .before .before .request3 .given .1, ← add-two (length (start .args .bytes .now)), ← c .before .command-wrong3 .ensures, c .if2 .taken)
 
 returns-5 : tie.Need-returns-5
 unfolding argumentWrong
-returns-5 c = rw (c .before .before .before .request3 .given .1, ← c .before .command-wrong3 .ensures, c .if2 .left)
+returns-5 c =
+    let start = c .before .before .before .before .before .before in
+    rw (c .before .before .before .request3 .given .1, ← add-two (length (start .args .bytes .now)), ← c .before .command-wrong3 .ensures, c .if2 .left)
 
 returns-6 : tie.Need-returns-6
 unfolding argumentWrong

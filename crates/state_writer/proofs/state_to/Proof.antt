@@ -3,14 +3,15 @@ use mathlib.Core.Path.{_≡_, sym}
 use native.Mathlib.Omega.{arith}
 use lib.ListN.{length}
 use borrow.Author.Needs.{needs}
+use Rattle.state.specs.View.{largestPage, largestFrame}
 use Rattle.state_bytes.proofs.Laws.{written-short, stored}
 use Rattle.state_writer.proofs.state_to.Statement.{statement}
 use Rattle.state_writer.proofs.state_to.Tie as tie
 
-waiting-long : (c : tie.Start) → length (c .args .s .upload .waiting) ≡ 64
+waiting-long : (c : tie.Start) → length (c .args .s .upload .waiting) ≡ largestPage
 waiting-long c = search needs
 
-bytes-long : (c : tie.Start) → length (c .args .s .last .bytes) ≡ 256
+bytes-long : (c : tie.Start) → length (c .args .s .last .bytes) ≡ largestFrame
 bytes-long c = search needs
 
 returns : tie.Need-returns
@@ -25,7 +26,7 @@ slice-aggregate-store c = search needs
 store-requires : tie.Need-store-requires
 store-requires c κs =
     let start = c .before .before .before .before .before .before .before .before .before in
-    let waiting : length (start .args .s .upload .waiting) ≡ 64 = waiting-long start in
+    let waiting : length (start .args .s .upload .waiting) ≡ largestPage = waiting-long start in
     omega arith
 
 slice-aggregate-store-2 : tie.Need-slice-aggregate-store-2
@@ -34,7 +35,7 @@ slice-aggregate-store-2 c = search needs
 store-requires-2 : tie.Need-store-requires-2
 store-requires-2 c κs =
     let start = c .before .before .before .before .before .before .before .before .before .before .before .before .before .before .before in
-    let bytes : length (start .args .s .last .bytes) ≡ 256 = bytes-long start in
+    let bytes : length (start .args .s .last .bytes) ≡ largestFrame = bytes-long start in
     omega arith
 
 same-length : tie.Need-same-length

@@ -1,5 +1,6 @@
 -- `updates::set_address` meets its contract: its test is the definition's, and the address is taken over.
-use Rattle.rules.specs.Commands.{setAddress}
+use mathlib.Core.Path.{sym, _∙_}
+use Rattle.laws.proofs.CommandLaws.{setAddress-outcomes}
 use borrow.Author.Tests.{eq-eqb, ne-eqb, not-true, not-false}
 use borrow.Author.Needs.{needs}
 use Rattle.updates.proofs.set_address.Statement.{statement}
@@ -12,8 +13,9 @@ type-matches-requires : tie.Need-type-matches-requires
 type-matches-requires c κs = search needs
 
 returns : tie.Need-returns
-unfolding setAddress
-returns c = λ d. rw (← c .before .type-matches .ensures, not-true (c .before .type-matches .result) (c .if1 .taken))
+returns c = λ d.
+    rw (setAddress-outcomes _ _ _ d .foreign
+    (sym (c .before .type-matches .ensures) ∙ not-true (c .before .type-matches .result) (c .if1 .taken)))
 
 shared-slice-read-address-taken : tie.Need-shared-slice-read-address-taken
 shared-slice-read-address-taken c = search needs
@@ -34,14 +36,16 @@ same-length : tie.Need-same-length
 same-length c = search needs
 
 returns-2 : tie.Need-returns-2
-unfolding setAddress
 returns-2 c =
     let w = c .before .before .before .before .before in
     let a = w .before in
     let e = a .before .before in
     let h = e .before in
     λ d.
-    rw (← h .type-matches .ensures, not-false (h .type-matches .result) (e .if1 .left), ← a .address-taken .ensures)
+    rw (
+      setAddress-outcomes _ _ _ d .taken (sym (h .type-matches .ensures) ∙ not-false (h .type-matches .result) (e .if1 .left)),
+      ← a .address-taken .ensures,
+    )
     (rw (w .with-address .ensures) at (c .before .before .reply .ensures d))
 
 pub set-address-spec : {M : Type 1} → statement M

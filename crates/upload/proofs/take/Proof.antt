@@ -1,27 +1,37 @@
 -- `upload::take` meets its contract. Invariant: `Reached`, where the first i bytes lead. A turn takes a part that lies in one page, by
 -- `turn-appended` or `turn-committed`.
+use mathlib.Core.Path.{_≡_}
 use Prim.Native.Nat.{_-_}
 use native.Mathlib.Omega.{arith}
 use lib.ListN.{length, length-take, length-drop}
 use lib.Seq.{take-all}
 use borrow.Author.Needs.{needs}
+use Rattle.state.specs.View.{largestPage}
 use Rattle.commit.proofs.Laws.{taken-formed}
 use Rattle.upload.proofs.Turns.{Reached, reached-none, turn-appended, turn-committed}
 use Rattle.upload.proofs.take.Statement.{statement}
 use Rattle.upload.proofs.take.Tie as tie
 
 abbrev Inv-loop : tie.InvT-loop
-Inv-loop p bytes flash₀ next₀ held₀ count₀ waiting₀ i₀ flash next held count waiting i =
-    Reached p (record { next = next₀; held = held₀; count = count₀; waiting = waiting₀ }) flash₀ bytes i
+Inv-loop p bytes flash₀ page next₀ held₀ count₀ waiting₀ i₀ flash next held count waiting i =
+    Reached p page (record { next = next₀; held = held₀; count = count₀; waiting = waiting₀ }) flash₀ bytes i
     (record { next = next; held = held; count = count; waiting = waiting }) flash
 
 abbrev μ-loop : tie.MeasureT-loop
-μ-loop p bytes flash₀ next₀ held₀ count₀ waiting₀ i₀ flash next held count waiting i = length bytes - i
+μ-loop p bytes flash₀ page next₀ held₀ count₀ waiting₀ i₀ flash next held count waiting i = length bytes - i
+
+page-requires : tie.Need-page-requires Inv-loop μ-loop
+page-requires c κs = search needs
+
+buffer-long : (c : tie.Start Inv-loop μ-loop) → length (c .args .u .waiting) ≡ largestPage
+buffer-long c = search needs
 
 loop-holds : tie.Need-loop-holds Inv-loop μ-loop
 loop-holds c =
-    let start = c .before .before .before in
-    reached-none (start .args .flash .now) (start .pre .0) (start .args .bytes .now) (start .pre .1) (search needs)
+    let paged = c .before in
+    let start = paged .before .before .before in
+    reached-none (start .args .flash .now) (start .pre .0) (start .args .bytes .now) (start .pre .1) (paged .page .ensures)
+    (buffer-long start)
 
 sub-part : tie.Need-sub-part Inv-loop μ-loop
 sub-part c = search needs
@@ -53,6 +63,9 @@ add-next c = omega arith
 add-held : tie.Need-add-held Inv-loop μ-loop
 add-held c = omega arith
 
+rem-if1 : tie.Need-rem-if1 Inv-loop μ-loop
+rem-if1 c = omega arith
+
 sub-commit-counted : tie.Need-sub-commit-counted Inv-loop μ-loop
 sub-commit-counted c = omega arith
 
@@ -76,7 +89,7 @@ loop-again c =
     let test = c .before .before .before .before .before .before in
     let stored = test .before .before in
     let at-loop = stored .before .before .before .before .before in
-    let pre = at-loop .before .before .before .before .pre in
+    let pre = at-loop .before .before .before .before .before .pre in
     let part = stored .before .before .before .part .ensures in
     turn-committed (pre .0) (pre .1) (at-loop .loop .inv) part (stored .store .ensures) (test .if1 .taken)
     (c .before .before .commit-counted .ensures)
@@ -88,7 +101,7 @@ loop-again-2 : tie.Need-loop-again-2 Inv-loop μ-loop
 loop-again-2 c =
     let stored = c .before .before in
     let at-loop = stored .before .before .before .before .before in
-    let pre = at-loop .before .before .before .before .pre in
+    let pre = at-loop .before .before .before .before .before .pre in
     let part = stored .before .before .before .part .ensures in
     turn-appended (pre .0) (pre .1) (at-loop .loop .inv) part (stored .store .ensures) (c .if1 .left)
 
@@ -98,7 +111,7 @@ same-length c = search needs
 returns : tie.Need-returns Inv-loop μ-loop
 returns c =
     let turn = c .before .loop in
-    let start = c .before .before .before .before .before in
+    let start = c .before .before .before .before .before .before in
     let bytes = start .args .bytes .now in
     let all = rw (take-all (turn .i) bytes (c .loop-test .left)) at (turn .inv .progress) in
     (all, taken-formed (start .args .flash .now) (start .pre .0) _ bytes (start .pre .1) all)
@@ -109,6 +122,7 @@ take-spec =
     (tie.spec
     Inv-loop
     μ-loop
+    page-requires
     loop-holds
     sub-part
     part-requires
@@ -120,6 +134,7 @@ take-spec =
     store-requires
     add-next
     add-held
+    rem-if1
     sub-commit-counted
     add-commit-counted
     array-share-prefix-waiting

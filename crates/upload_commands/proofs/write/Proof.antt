@@ -5,7 +5,7 @@ use borrow.Author.Tests.{not-true, not-false}
 use Rattle.response.proofs.Laws.{few-fit}
 use Rattle.commit.specs.Progress.{progressOf}
 use Rattle.profile.specs.View.{profileOf}
-use Rattle.state.specs.View.{page, uploadOf}
+use Rattle.state.specs.View.{uploadOf}
 use Rattle.rules.specs.Frames.{numberAt}
 use Rattle.rules.specs.Commit.{takenAll}
 use lib.ListN.{length, take, drop, length-take, length-drop}
@@ -95,7 +95,7 @@ take-requires c κs =
     sym (a .accepts .ensures) ∙ not-false (a .accepts .result) (b .before .if1 .left) in
     let formed = upload-formed p s _ _ (st .args .at) (st .pre .0) in (
       ready p s _ _ (st .args .at) (st .pre .0) (b .restart .result)
-          (rw (b .restart .ensures) (restarted-formed page (p .size) address (uploadOf (s .upload)) formed)),
+          (rw (b .restart .ensures) (restarted-formed (profileOf p .page) (p .size) address (uploadOf (s .upload)) formed)),
       rw (ap (λ u. u .next) (b .restart .ensures)) (accepted-fits (p .size) address many (uploadOf (s .upload)) yes),
     )
 

@@ -1,12 +1,21 @@
--- `upload_ends::page_of` meets its contract: a page past the end is empty.
+-- `upload_ends::page_of` meets its contract: a page past the end is empty; any other begins within the bytes.
 use mathlib.Core.Path.{sym, ap, _∙_}
-use Prim.Native.Nat.{_*_, _≤_}
+use Prim.Native.Nat.{ℕ, _*_, _/_, _≤_, _<_}
 use native.Mathlib.Omega.{arith}
+use native.Mathlib.Nat.{mod-lt, div-add-mod', suc-mul, mul-le-mul-right, le-div-iff-mul-le}
 use lib.ListN.{length, take, drop-of-length-le}
 use lib.Seq.{take-nil}
 use borrow.Author.Needs.{needs}
 use Rattle.upload_ends.proofs.page_of.Statement.{statement}
 use Rattle.upload_ends.proofs.page_of.Tie as tie
+
+-- a page that begins past the end
+page-past : (page n k : ℕ) → 0 < page → n / page < k → n ≤ k * page
+page-past page n k pos past =
+    omega (arith, div-add-mod' n page, mod-lt n pos, suc-mul (n / page) page, mul-le-mul-right page past)
+
+div-if1 : tie.Need-div-if1
+div-if1 c = search needs
 
 sub-result : tie.Need-sub-result
 sub-result c = search needs
@@ -19,13 +28,17 @@ part-result-end c = search needs
 
 returns : tie.Need-returns
 returns c =
-    let bytes = c .before .before .before .args .bytes .now in
-    let k = c .before .before .before .args .k in
-    let past : length bytes ≤ k * 64 = omega arith in
-    sym (ap (take 64) (drop-of-length-le bytes past) ∙ take-nil 64)
+    let start = c .before .before .before in
+    let bytes = start .args .bytes .now in
+    let page = start .args .page in
+    let past = page-past page (length bytes) (start .args .k) (start .pre) (c .before .if1 .taken) in
+    sym (ap (take page) (drop-of-length-le bytes past) ∙ take-nil page)
 
 mul-part-of : tie.Need-mul-part-of
-mul-part-of c = search needs
+mul-part-of c =
+    let start = c .before .before in
+    let begins = le-div-iff-mul-le {y = length (start .args .bytes .now)} (start .pre) .0 (c .if1 .left) in
+    search needs
 
 part-of-requires : tie.Need-part-of-requires
 part-of-requires c κs = search needs
@@ -37,6 +50,7 @@ pub page-of-spec : {M : Type 1} → statement M
 page-of-spec =
     tie.close
     (tie.spec
+    div-if1
     sub-result
     part-result-start
     part-result-end

@@ -4,25 +4,25 @@ use borrow.Author.Needs.{needs}
 use Rattle.verdict.proofs.classify.Statement.{statement}
 use Rattle.verdict.proofs.classify.Tie as tie
 
-is-reset-requires : tie.Need-is-reset-requires
-is-reset-requires c κs = search needs
+is-general-requires : tie.Need-is-general-requires
+is-general-requires c κs = search needs
 
 returns : tie.Need-returns
 unfolding verdict
-returns c = rw (← c .before .is-reset .ensures, c .if1 .taken)
+returns c = rw (← c .before .is-general .ensures, c .if1 .taken)
 
 returns-2 : tie.Need-returns-2
 unfolding verdict
-returns-2 c = rw (← c .before .before .is-reset .ensures, c .before .if1 .left, c .if2 .taken)
+returns-2 c = rw (← c .before .before .is-general .ensures, c .before .if1 .left, c .if2 .taken)
 
-is-reset-address-requires : tie.Need-is-reset-address-requires
-is-reset-address-requires c κs = search needs
+is-general-requires-2 : tie.Need-is-general-requires-2
+is-general-requires-2 c κs = search needs
 
 returns-3 : tie.Need-returns-3
 unfolding verdict
 returns-3 c =
     let e = c .before .before in
-    rw (← e .before .before .is-reset .ensures, e .before .if1 .left, e .if2 .left, ← c .before .is-reset-address .ensures, c .if3 .taken)
+    rw (← e .before .before .is-general .ensures, e .before .if1 .left, e .if2 .left, ← c .before .is-general2 .ensures, c .if3 .taken)
 
 enum-told : tie.Need-enum-told
 enum-told c = search needs
@@ -42,10 +42,10 @@ returns-4 c =
     let r = c .before .before .before .before in
     let e = r .before in
     rw (
-      ← e .before .before .is-reset .ensures,
+      ← e .before .before .is-general .ensures,
       e .before .if1 .left,
       e .if2 .left,
-      ← r .is-reset-address .ensures,
+      ← r .is-general2 .ensures,
       c .before .before .before .if3 .left,
       c .before .enum-told .given .1,
     )
@@ -57,10 +57,10 @@ returns-5 c =
     let r = c .before .before .before .before in
     let e = r .before in
     rw (
-      ← e .before .before .is-reset .ensures,
+      ← e .before .before .is-general .ensures,
       e .before .if1 .left,
       e .if2 .left,
-      ← r .is-reset-address .ensures,
+      ← r .is-general2 .ensures,
       c .before .before .before .if3 .left,
       c .before .enum-told2 .given .1,
     )
@@ -70,10 +70,10 @@ pub classify-spec : {M : Type 1} → statement M
 classify-spec =
     tie.close
     (tie.spec
-    is-reset-requires
+    is-general-requires
     returns
     returns-2
-    is-reset-address-requires
+    is-general-requires-2
     returns-3
     enum-told
     i2c-framing-requires

@@ -1,15 +1,20 @@
 -- `bench_memory::pages::track` is safe and ends. The turns that are left fall.
 use mathlib.Core.Path.{_≡_}
+use Prim.Native.Nat.{_≤_}
 use lib.ListN.{length}
 use borrow.Author.Needs.{needs}
+use Rattle.state.specs.View.{largestPage}
 use Rattle.bench_memory.proofs.pages.track.Statement.{statement}
 use Rattle.bench_memory.proofs.pages.track.Tie as tie
 
 abbrev Inv-loop : tie.InvT-loop
-Inv-loop verbose offset next memory₀ page₀ n₀ turns₀ memory page n turns = length memory ≡ length memory₀
+Inv-loop verbose next memory₀ offset size page₀ n₀ turns₀ memory page n turns = (length memory ≡ length memory₀) × (size ≤ largestPage)
 
 abbrev μ-loop : tie.MeasureT-loop
-μ-loop verbose offset next memory₀ page₀ n₀ turns₀ memory page n turns = turns
+μ-loop verbose next memory₀ offset size page₀ n₀ turns₀ memory page n turns = turns
+
+page-size-requires : tie.Need-page-size-requires Inv-loop μ-loop
+page-size-requires c κs = search needs
 
 first-page-requires : tie.Need-first-page-requires Inv-loop μ-loop
 first-page-requires c κs = search needs
@@ -44,6 +49,7 @@ track-spec =
     (tie.spec
     Inv-loop
     μ-loop
+    page-size-requires
     first-page-requires
     loop-holds
     sub-turns

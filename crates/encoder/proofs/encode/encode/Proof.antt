@@ -1,11 +1,11 @@
 -- `encoder::encode::encode` meets its contract: each return follows the definition past the tests that were passed.
 use mathlib.Core.Path.{refl, sym, _∙_}
-use lib.ListN.{length}
 use borrow.Author.Needs.{needs}
 use borrow.Author.Tests.{lt-ltb, le-ltb, not-false}
-use Rattle.rules.specs.Master.{encoded}
+use Rattle.rules.specs.Master.{instructionOf, encoded}
+use Rattle.laws.proofs.RequestLaws.{argumentWrong-right}
 use Rattle.request_bytes.proofs.LengthLaws.{length-requestBytes}
-use Rattle.encoder.proofs.EncodeLaws.{longest-least, longest-most, fitting, encodes-unmade, encodes-made}
+use Rattle.encoder.proofs.EncodeLaws.{longest-least, longest-most, command-fits, numbers-fit, encodes-unmade, encodes-made}
 use Rattle.encoder.proofs.encode.encode.Statement.{statement}
 use Rattle.encoder.proofs.encode.encode.Tie as tie
 
@@ -21,7 +21,7 @@ returns c =
 argument-wrong-requires : tie.Need-argument-wrong-requires
 argument-wrong-requires c κs =
     let in-range = sym (c .before .frame-in-range .ensures) ∙ not-false _ (c .if1 .left) in
-    (longest-least _ in-range, search needs)
+    longest-least _ in-range
 
 returns-2 : tie.Need-returns-2
 unfolding encoded
@@ -58,10 +58,14 @@ write-request-requires c κs =
     let ranged = right .before .before in
     let start = ranged .before .before .before .before in
     let in-range = sym (ranged .before .frame-in-range .ensures) ∙ not-false _ (ranged .if1 .left) in
-    let fits =
-    fitting (start .args .bus) (start .args .longest) (start .args .request) (start .args .destination) (length (start .args .bytes .now))
-    (longest-most _ in-range) (sym (right .before .argument-wrong .ensures) ∙ right .if2 .left) in
-    (fits, rw (← long .before .request-length .ensures) (long .if3 .left))
+    let args = start .args in
+    let passed =
+    argumentWrong-right (args .bus) (args .longest) (args .request) (args .destination) (args .bytes .now)
+    (sym (right .before .argument-wrong .ensures) ∙ right .if2 .left) in (
+      command-fits (args .bus) (args .longest) (args .destination) (instructionOf (args .request) (args .bytes .now)) (passed .allowed),
+      numbers-fit (args .bus) (args .longest) (args .request) (longest-most _ in-range) (passed .numbers-right),
+      rw (← long .before .request-length .ensures) (long .if3 .left),
+    )
 
 same-length : tie.Need-same-length
 same-length c = search needs
