@@ -39,7 +39,7 @@ pub record Met (profile state flash : List ℕ) (cs : List Call) : Type 0 where
   pub demand2 : inRange (profileOf (profileAt profile)) ≡ true
       → profileAt profile .offset + profileAt profile .size ≤ length flash
       → AllRight (profileOf (profileAt profile)) (initially flash 0) (stepsOf profile state flash cs)
-  pub demand3 : Holds (profileOf (profileAt profile)) (stepsOf profile state flash cs)
+  pub demand3 : Holds (profileOf (profileAt profile)) flash (stepsOf profile state flash cs)
 
 -- any profile bytes, a buffer with room for a state, any flash, any list of calls after childbus_fresh
 abbrev pub BoundaryMeetsDemands : Type 0

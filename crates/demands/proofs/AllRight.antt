@@ -148,7 +148,7 @@ module _ (p : Profile) (range : inRange p ≡ true) where
       let o = received-formed-call p s d a f n formed in
       let rest =
       all-right (c .state) (c .flash) (fed p k (Frame a f n) (c .number) (c .reply)) cs (o .well-formed)
-      (omega (arith, o .flash-length)) in (
+      (omega (arith, o .outside .length-kept)) in (
         frame-right p k a f n s d range room formed,
         subst (λ (q : Known). AllRight p q (trace ruled p (c .state) (c .flash) (fed p k (Frame a f n) (c .number) (c .reply)) cs))
             (sym (received-known p s a f d n k)) rest,
@@ -156,7 +156,7 @@ module _ (p : Profile) (range : inRange p ≡ true) where
   all-right s d k (Read a n ∷ cs) formed room =
       let c : Called = readOut p s a d n in
       let o = readOut-formed-call p s d a n formed in
-      let rest = all-right (c .state) (c .flash) k cs (o .well-formed) (omega (arith, o .flash-length)) in (
+      let rest = all-right (c .state) (c .flash) k cs (o .well-formed) (omega (arith, o .outside .length-kept)) in (
         read-right p k a n s d range room formed,
         subst (λ (q : Known). AllRight p q (trace ruled p (c .state) (c .flash) k cs)) (sym (read-known p k a n s d)) rest,
       )

@@ -13,6 +13,7 @@ use Rattle.rules.specs.Bytes.{same}
 use Rattle.rules.specs.Profile.{Profile}
 use Rattle.rules.specs.State.{State}
 use Rattle.rules.specs.CheckSums.{sumRight}
+use Rattle.rules.specs.Commit.{OutsideKept}
 use Rattle.rules.specs.Frames.{destination, addressed, resetFrame}
 use Rattle.rules.specs.Board.{Called, refused, received, readOut}
 use Rattle.ledger.specs.Calls.{Call, Frame, Read, Board, Step, traced}
@@ -44,6 +45,12 @@ abbrev pub IgnoredFrames : Type 0
 IgnoredFrames =
     (p : Profile) (s : State) (a : ℕ) (f d : List ℕ) (n : ℕ) → (foreign p (s .address) a f ≡ true) ⊎ (damaged p a f ≡ true)
     → (received p s a f d n .flash ≡ d) × (received p s a f d n .state .upload ≡ s .upload)
+
+-- bytes outside O to O + S - 1 never change: every call, every state and flash, refused or not
+abbrev pub CallsKeepOutside : Type 0
+CallsKeepOutside =
+    (p : Profile) (s : State) (a : ℕ) (f d : List ℕ) (n : ℕ)
+    → OutsideKept p d (received p s a f d n .flash) × OutsideKept p d (readOut p s a d n .flash)
 
 -- over any board
 

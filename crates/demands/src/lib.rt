@@ -1,7 +1,7 @@
 // Demands 1 and 2, stated where a reader meets them. The functions do nothing.
 ghost use Rattle.ledger.specs.Calls.{ruled};
 ghost use Rattle.demands.specs.Acceptance.{Demand2, StateRight};
-ghost use Rattle.demands.specs.Untouched.{RefusedUntouched, IgnoredFrames, Demand1};
+ghost use Rattle.demands.specs.Untouched.{RefusedUntouched, IgnoredFrames, CallsKeepOutside, Demand1};
 ghost use Rattle.demands.specs.Replies.{EveryReply};
 
 // Demand 1: a call refused by number 2 or above hands back the given state, untouched flash and buffers.
@@ -12,6 +12,11 @@ pub fn refused_untouched()
 // Demand 1: a foreign frame, or one with a wrong check sum, changes neither flash nor upload.
 pub fn ignored_frames()
     ensures { λ _. ⌜ IgnoredFrames ⌝ }
+{}
+
+// Bytes of the lent flash outside O to O + S - 1 never change, whatever the call, the state and the flash.
+pub fn outside_kept()
+    ensures { λ _. ⌜ CallsKeepOutside ⌝ }
 {}
 
 // Demand 1 as a claim over any board, of the rules': a refused call, a foreign or a damaged frame leaves flash and count.

@@ -16,6 +16,7 @@ use Rattle.rules.specs.Profile.{Profile, inRange}
 use Rattle.rules.specs.State.{State, fresh, withLast, wellFormed}
 use Rattle.rules.specs.Numbers.{refusal, flashShort, bufferShort}
 use Rattle.rules.specs.Frames.{reply, destination, verdict, ignored, commandOf, argumentsOf}
+use Rattle.rules.specs.Commit.{OutsideKept}
 use Rattle.rules.specs.Responses.{Response, Reply, NoReply, Acted, invalidTransfer, invalidCrc}
 use Rattle.rules.specs.Commands.{executed}
 use Rattle.rules.specs.Board.{Called, nothing, withReply, replied, finishedCall, addressReset, handled, refused, received, readAnswered}
@@ -23,17 +24,18 @@ use Rattle.rules.specs.Board.{readOut}
 use Rattle.laws.proofs.StateLaws.{UploadFacts, ReplyFacts, Unrefused, facts-wellFormed, wellFormed-facts, fresh-wellFormed}
 use Rattle.laws.proofs.StateLaws.{refusal-unrefused}
 use Rattle.laws.proofs.TestLaws.{by-test}
+use Rattle.laws.proofs.UploadLaws.{outside-refl}
 use Rattle.laws.proofs.CommandLaws.{Fits, FormedResult, length-reply, replying-formed-result, executed-formed-result}
 
--- what a call leaves: a well-formed state, flash as long as d, a reply of at most M bytes
+-- what a call leaves: a well-formed state, flash as long as d and with its bytes outside the working flash, a reply of at most M bytes
 pub record FormedCall (p : Profile) (d : List ℕ) (c : Called) : Type 0 where
   pub well-formed : wellFormed p (c .state) ≡ true
-  pub flash-length : length (c .flash) ≡ length d
+  pub outside : OutsideKept p d (c .flash)
   pub reply-most : length (c .reply) ≤ p .longest
 
 -- nothing to send, or a refusal: the state as it was, or another that is well formed
 nothing-formed : (p : Profile) (number : ℕ) (s : State) (d : List ℕ) → wellFormed p s ≡ true → FormedCall p d (refused number s d)
-nothing-formed p number s d formed = record { well-formed = formed; flash-length = refl; reply-most = omega arith }
+nothing-formed p number s d formed = record { well-formed = formed; outside = outside-refl p d; reply-most = omega arith }
 
 -- a reply changes the last reply alone: what does not look at it stays
 pub withReply-kept : {A : Type 0} (get : State → A) → ((s : State) (l : List ℕ) → get (withLast s l) ≡ get s)
@@ -56,17 +58,17 @@ withReply-formed p s r formed h =
 
 replied-formed-call : (p : Profile) (d : List ℕ) (a : ℕ) (r : Response) (s : State) (e : List ℕ)
     → UploadFacts (p .page) (p .size) (s .upload)
-    → length e ≡ length d → Fits p r → FormedCall p d (replied (p .bus) a r s e)
-replied-formed-call p d a (Reply status results) s e formed same fits =
+    → OutsideKept p d e → Fits p r → FormedCall p d (replied (p .bus) a r s e)
+replied-formed-call p d a (Reply status results) s e formed kept fits =
     let most : length (reply (p .bus) a status results) ≤ p .longest = omega (arith, length-reply (p .bus) a status results) in
-    record { well-formed = withReply-formed p s (reply (p .bus) a status results) formed most; flash-length = same; reply-most = most }
-replied-formed-call p d a NoReply s e formed same fits =
-    record { well-formed = withReply-formed p s [] formed (omega arith); flash-length = same; reply-most = omega arith }
+    record { well-formed = withReply-formed p s (reply (p .bus) a status results) formed most; outside = kept; reply-most = most }
+replied-formed-call p d a NoReply s e formed kept fits =
+    record { well-formed = withReply-formed p s [] formed (omega arith); outside = kept; reply-most = omega arith }
 
 finishedCall-formed-call : (p : Profile) (d : List ℕ) (a : ℕ) (act : Acted) → FormedResult p d act
     → FormedCall p d (finishedCall (p .bus) a act)
 finishedCall-formed-call p d a act formed-result =
-    replied-formed-call p d a (act .response) (act .state) (act .flash) (formed-result .formed) (formed-result .flash-length)
+    replied-formed-call p d a (act .response) (act .state) (act .flash) (formed-result .formed) (formed-result .outside)
     (formed-result .fits)
 
 addressReset-formed : (p : Profile) (s : State) → UploadFacts (p .page) (p .size) (s .upload) → wellFormed p (addressReset s) ≡ true
@@ -104,9 +106,17 @@ module _ (p : Profile) (s : State) (d : List ℕ) where
   readOut-formed-call a n formed =
       by-test (eqb (refusal p s (length d) n) 0)
       (λ e. rw e (by-test (readAnswered (p .bus) s a)
-      (λ e. rw e (record { well-formed = formed; flash-length = refl; reply-most = wellFormed-facts p s formed .reply .last-most }))
+      (λ e. rw e (record { well-formed = formed; outside = outside-refl p d; reply-most = wellFormed-facts p s formed .reply .last-most }))
       (λ e. rw e (nothing-formed p 1 s d formed))))
       (λ e. rw e (nothing-formed p (refusal p s (length d) n) s d formed))
+
+  -- whatever the state, refused or not, bytes outside the working flash are kept
+  pub received-outside : (a : ℕ) (f : List ℕ) (n : ℕ) → OutsideKept p d (received p s a f d n .flash)
+  unfolding received
+  received-outside a f n =
+      by-test (eqb (refusal p s (length d) n) 0)
+      (λ e. rw e (handled-formed-call n a f _ (refusal-unrefused p s (length d) n (eqb-true _ _ e)) .outside))
+      (λ e. rw e (outside-refl p d))
 
   -- where none of 2 to 5 applies, a frame is handled by its verdict
   pub received-handled : (a : ℕ) (f : List ℕ) (n : ℕ) → refusal p s (length d) n ≡ 0

@@ -14,13 +14,14 @@ use Rattle.rules.specs.declared.kinds.Address.the-variants.{Own}
 use Rattle.rules.specs.Profile.{Profile}
 use Rattle.rules.specs.State.{State, Upload, withAddress}
 use Rattle.rules.specs.Frames.{reply, shortestReply, twoBytes, numberAt}
+use Rattle.rules.specs.Commit.{OutsideKept}
 use Rattle.rules.specs.Responses.{Response, Reply, NoReply, Acted, replying, ok, commandNotSupported, invalidArguments}
 use Rattle.rules.specs.Commands.{setAddress, hardwareInfo, serialNumber, started, accepted, restarted, written, finished, readable, shown}
 use Rattle.rules.specs.Commands.{addressTaken, performed, executed, tabled, lengthAllowed}
 use Rattle.laws.proofs.StateLaws.{ProfileFacts, UploadFacts}
 use Rattle.laws.proofs.CheckSumLaws.{length-sealed}
 use Rattle.laws.proofs.TestLaws.{by-test, &&-true}
-use Rattle.laws.proofs.UploadLaws.{takenAll-kept, finalized-kept}
+use Rattle.laws.proofs.UploadLaws.{takenAll-kept, finalized-kept, outside-refl}
 
 pub length-reply : (bus : Bus) (a status : ℕ) (results : List ℕ) → length (reply bus a status results) ≡ shortestReply bus + length results
 unfolding reply
@@ -39,7 +40,7 @@ Fits p NoReply = Unit
 -- what a command leaves: a well-formed upload, flash as long as d, a reply that fits
 pub record FormedResult (p : Profile) (d : List ℕ) (a : Acted) : Type 0 where
   pub formed : UploadFacts (p .page) (p .size) (a .state .upload)
-  pub flash-length : length (a .flash) ≡ length d
+  pub outside : OutsideKept p d (a .flash)
   pub fits : Fits p (a .response)
 
 -- a claim on what a command does, command by command: its code, and that its argument length is allowed
@@ -123,14 +124,14 @@ module _ (p : Profile) (facts : ProfileFacts p) (s : State) (formed : UploadFact
   -- 27 results fit any frame
   pub replying-formed-result : (status : ℕ) (results : List ℕ) → length results ≤ 27 → FormedResult p d (replying s d status results)
   replying-formed-result status results h =
-      record { formed = formed; flash-length = refl; fits = omega (arith, shortestReply-le (p .bus), facts .longest-least) }
+      record { formed = formed; outside = outside-refl p d; fits = omega (arith, shortestReply-le (p .bus), facts .longest-least) }
 
   setAddress-formed-result : (args : List ℕ) → FormedResult p d (setAddress p s args d)
   setAddress-formed-result args =
       setAddress-cases p s args d (FormedResult p d)
       (record {
-        taken = λ e. record { formed = formed; flash-length = refl; fits = omega (arith, shortestReply-le (p .bus), facts .longest-least) };
-        foreign = λ e. record { formed = formed; flash-length = refl; fits = tt };
+        taken = λ e. record { formed = formed; outside = outside-refl p d; fits = omega (arith, shortestReply-le (p .bus), facts .longest-least) };
+        foreign = λ e. record { formed = formed; outside = outside-refl p d; fits = tt };
       })
 
   serialNumber-formed-result : FormedResult p d (serialNumber p s d)
@@ -141,7 +142,7 @@ module _ (p : Profile) (facts : ProfileFacts p) (s : State) (formed : UploadFact
   started-formed-result : FormedResult p d (started s d)
   started-formed-result = record {
     formed = record { next-most = formed .next-most; waiting-most = omega arith; count-most = omega (arith, formed .count-most) };
-    flash-length = refl;
+    outside = outside-refl p d;
     fits = tt;
   }
 
@@ -149,7 +150,7 @@ module _ (p : Profile) (facts : ProfileFacts p) (s : State) (formed : UploadFact
   unfolding finished
   finished-formed-result =
       let k = finalized-kept p facts (record { upload = s .upload; flash = d }) room formed in
-      record { formed = k .formed; flash-length = k .flash-length; fits = omega (arith, shortestReply-le (p .bus), facts .longest-least) }
+      record { formed = k .formed; outside = k .outside; fits = omega (arith, shortestReply-le (p .bus), facts .longest-least) }
 
   shown-formed-result : (args : List ℕ) → FormedResult p d (shown p s args d)
   unfolding shown
@@ -163,7 +164,7 @@ module _ (p : Profile) (facts : ProfileFacts p) (s : State) (formed : UploadFact
       rw e
       (record {
         formed = formed;
-        flash-length = refl;
+        outside = outside-refl p d;
         fits =
             omega (
               arith,
@@ -192,7 +193,7 @@ module _ (p : Profile) (facts : ProfileFacts p) (s : State) (formed : UploadFact
       )) in
       rw e (record {
         formed = k .formed;
-        flash-length = k .flash-length;
+        outside = k .outside;
         fits =
             omega (arith, shortestReply-le (p .bus), facts .longest-least);
       }))

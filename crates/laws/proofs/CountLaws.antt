@@ -144,7 +144,7 @@ module _ (p : Profile) (facts : ProfileFacts p) (d : List ℕ) (room : p .offset
         let ends : taken p g b ≡ committed p filled = rw (eq-eqb _ _ here) in
         let laid =
         committed-overlay p filled
-        (more-fitting p facts g b (omega (arith, kept .flash-length)) (kept .formed) (omega (arith, next-is))) in
+        (more-fitting p facts g b (omega (arith, kept .outside .length-kept)) (kept .formed) (omega (arith, next-is))) in
         let found : standing p filled ≡ stood p d longer (length image / p .page) =
         standing-stood image fits (b ∷ []) (omega (arith, length-more p facts g b, waiting-length image fits, mod-lt (length image) pos))
         (more p facts g b) refl (rw next-is) in
@@ -190,4 +190,4 @@ module _ (p : Profile) (facts : ProfileFacts p) (d : List ℕ) (room : p .offset
       let none : g .upload .waiting ≡ [] = length-zero (g .upload .waiting) (eqb-true _ _ e) in
       let there : stood p d image (length image / p .page) ≡ true = sym found ∙ rw none in
       rw (e, there, add-zero) counted)
-      (λ e. rw (e, committed-overlay p g (formed-fitting p facts g (omega (arith, kept .flash-length)) (kept .formed)), found, counted))
+      (λ e. rw (e, committed-overlay p g (formed-fitting p facts g (omega (arith, kept .outside .length-kept)) (kept .formed)), found, counted))

@@ -1,5 +1,6 @@
 pub mod TestLaws
 pub mod BytesLaws
+pub mod OverlayLaws
 pub mod CommitLaws
 pub mod CheckSumLaws
 pub mod StateLaws

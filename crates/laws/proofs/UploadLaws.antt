@@ -1,6 +1,7 @@
 -- Laws of an upload: next grows by the bytes taken, and a well-formed upload stays well formed over flash that keeps its length. Why: a
 -- commit uses up at least one waiting byte, which pays for its count; the waiting bytes lie within one page.
 use mathlib.Core.Path.{_≡_, refl, ap, _∙_}
+use mathlib.Core.Logic.{_⊎_, inl, inr}
 use mathlib.Core.Bool.{Bool, true, false}
 use mathlib.Core.List.{List, [], _∷_, _++_}
 use Prim.Native.Nat.{ℕ, _+_, _-_, _*_, _/_, _%_, _<_, _≤_}
@@ -12,9 +13,10 @@ use borrow.Author.Tests.{eqb-true, eqb-false}
 use Rattle.rules.specs.Bytes.{same, overlay}
 use Rattle.rules.specs.Profile.{Profile}
 use Rattle.rules.specs.State.{Upload}
-use Rattle.rules.specs.Commit.{Progress, pageStart, committed, taken, takenAll, finalized}
+use Rattle.rules.specs.Commit.{Progress, pageStart, committed, taken, takenAll, finalized, Outside, OutsideKept}
 use Rattle.laws.proofs.TestLaws.{by-test}
 use Rattle.laws.proofs.BytesLaws.{length-overlay}
+use Rattle.laws.proofs.OverlayLaws.{getD-overlay-outside}
 use Rattle.laws.proofs.CommitLaws.{Fitting, placed, standing, raise, committed-overlay, suc-mod-below, suc-mod-end}
 use Rattle.laws.proofs.StateLaws.{ProfileFacts, UploadFacts}
 
@@ -64,10 +66,34 @@ suc-mod-inner page n pos inner =
     (λ e. absurd (inner (suc-mod-end page n (eqb-true _ _ e))))
     (λ e. suc-mod-below page n (let ne = eqb-false (n % page + 1) page e in omega (arith, mod-lt n pos)))
 
--- an upload that is well formed, and flash as long as d
+-- an upload that is well formed, and flash as long as d and with its bytes outside the working flash
 pub record Kept (p : Profile) (d : List ℕ) (g : Progress) : Type 0 where
   pub formed : UploadFacts (p .page) (p .size) (g .upload)
-  pub flash-length : length (g .flash) ≡ length d
+  pub outside : OutsideKept p d (g .flash)
+
+pub outside-refl : (p : Profile) (d : List ℕ) → OutsideKept p d d
+outside-refl p d = record { length-kept = refl; bytes-kept = λ i out. refl }
+
+pub outside-trans : {p : Profile} {d e f : List ℕ} → OutsideKept p d e → OutsideKept p e f → OutsideKept p d f
+outside-trans one two = record {
+  length-kept = two .length-kept ∙ one .length-kept;
+  bytes-kept = λ i out. two .bytes-kept i out ∙ one .bytes-kept i out;
+}
+
+-- a commit writes within the working flash
+overlay-outside : (p : Profile) (g : Progress) → Fitting p g
+    → OutsideKept p (g .flash) (overlay (g .flash) (placed p (g .upload)) (g .upload .waiting))
+overlay-outside p g f = record {
+  length-kept = length-overlay (g .flash) (placed p (g .upload)) (g .upload .waiting) fits;
+  bytes-kept = λ i out. getD-overlay-outside (g .flash) (placed p (g .upload)) (g .upload .waiting) fits i (beside i out);
+}
+  where
+    fits : placed p (g .upload) + length (g .upload .waiting) ≤ length (g .flash)
+    fits = omega (arith, f .room, f .next-le, f .held-le)
+
+    beside : (i : ℕ) → Outside p i → (i < placed p (g .upload)) ⊎ (placed p (g .upload) + length (g .upload .waiting) ≤ i)
+    beside i (inl below) = inl (omega arith)
+    beside i (inr above) = inr (omega (arith, f .next-le, f .held-le))
 
 raise-le : (b : Bool) → raise b ≤ 1
 raise-le true = omega arith
@@ -81,7 +107,7 @@ committed-kept p g f some paid =
     (record {
       formed =
           record { next-most = f .next-le; waiting-most = omega arith; count-most = omega (arith, raise-le (standing p g), f .held-le) };
-      flash-length = length-overlay (g .flash) (placed p (g .upload)) (g .upload .waiting) (omega (arith, f .room, f .next-le, f .held-le));
+      outside = overlay-outside p g f;
     })
 
 -- one accepted byte: it joins the waiting ones, and at the end of a page all of them are committed
@@ -126,18 +152,18 @@ module _ (p : Profile) (facts : ProfileFacts p) (g : Progress) (b : ℕ) where
         rw e
         (committed-kept p (record { upload = more; flash = g .flash }) more-fitting (omega (arith, length-more))
         (omega (arith, length-more, formed .count-most))))
-        (λ e. rw e (record { formed = more-formed (eqb-false _ _ e); flash-length = refl }))
+        (λ e. rw e (record { formed = more-formed (eqb-false _ _ e); outside = outside-refl p (g .flash) }))
 
 module _ (p : Profile) (facts : ProfileFacts p) where
   pub takenAll-kept : (g : Progress) (bs : List ℕ) → p .offset + p .size ≤ length (g .flash) → UploadFacts (p .page) (p .size) (g .upload)
       → g .upload .next + length bs ≤ p .size → Kept p (g .flash) (takenAll p g bs)
   unfolding takenAll
-  takenAll-kept g [] room formed below = record { formed = formed; flash-length = refl }
+  takenAll-kept g [] room formed below = record { formed = formed; outside = outside-refl p (g .flash) }
   takenAll-kept g (b ∷ bs) room formed below =
       let one = taken-kept p facts g b room formed (omega arith) in
       let all =
-      takenAll-kept (taken p g b) bs (omega (arith, one .flash-length)) (one .formed) (omega (arith, next-taken p g b)) in
-      record { formed = all .formed; flash-length = all .flash-length ∙ one .flash-length }
+      takenAll-kept (taken p g b) bs (omega (arith, one .outside .length-kept)) (one .formed) (omega (arith, next-taken p g b)) in
+      record { formed = all .formed; outside = outside-trans (one .outside) (all .outside) }
 
   -- the waiting bytes of a well-formed upload lie within one page
   pub formed-fitting : (g : Progress) → p .offset + p .size ≤ length (g .flash) → UploadFacts (p .page) (p .size) (g .upload) → Fitting p g
@@ -158,7 +184,7 @@ module _ (p : Profile) (facts : ProfileFacts p) where
       → Kept p (g .flash) (finalized p g)
   unfolding finalized
   finalized-kept g room formed =
-      by-test (eqb (length (g .upload .waiting)) 0) (λ e. rw e (record { formed = formed; flash-length = refl }))
+      by-test (eqb (length (g .upload .waiting)) 0) (λ e. rw e (record { formed = formed; outside = outside-refl p (g .flash) }))
       (λ e.
       let some : length (g .upload .waiting) ≡ 0 → ⊥ = eqb-false _ _ e in
       rw e (committed-kept p g (formed-fitting g room formed) (omega arith) (formed .count-most)))

@@ -7,6 +7,9 @@ use Prim.Native.Nat.{ℕ}
 use native.Mathlib.Omega.{arith}
 use Rattle.rules.specs.Profile.{Profile}
 use Rattle.rules.specs.State.{State, fresh}
+use Rattle.rules.specs.Commit.{OutsideKept}
+use Rattle.laws.proofs.UploadLaws.{outside-refl, outside-trans}
+use Rattle.laws.proofs.BoardLaws.{received-outside, readOut-flash}
 use Rattle.ledger.specs.Ledger.{Ledger, opened, replyCount}
 use Rattle.ledger.specs.Calls.{Call, Frame, Read, Step, calls, ruled, fed, stepped, trace}
 use Rattle.ledger.specs.Claim.{finalizeStep, AcceptedAgain, Finished, Right, Every, Demand3}
@@ -77,6 +80,19 @@ every-right : (p : Profile) (ss : List Step) → Every (Good p) ss → Every (Ri
 every-right p [] all = tt
 every-right p (s ∷ ss) all = (all .0 .right, every-right p ss (all .1))
 
+-- bytes outside the working flash
+call-outside : (p : Profile) (s : State) (d : List ℕ) (c : Call) → OutsideKept p d (calls p s d c .flash)
+call-outside p s d (Frame a f m) = received-outside p s d a f m
+call-outside p s d (Read a m) = rw (readOut-flash p s a d m) (outside-refl p d)
+
+trace-outside : (p : Profile) (first : List ℕ) (cs : List Call) (s : State) (d : List ℕ) (k : Ledger) → OutsideKept p first d
+    → Every (λ (t : Step). OutsideKept p first (t .flash)) (trace ruled p s d k cs)
+unfolding trace
+trace-outside p first [] s d k kept = tt
+trace-outside p first (c ∷ cs) s d k kept =
+    let next = outside-trans kept (call-outside p s d c) in
+    (next, trace-outside p first cs _ _ _ next)
+
 -- the parts of a list of steps
 
 every-behind : (p : Profile) (before ss : List Step) → Every (Good p) (before ++ ss) → Every (Good p) ss
@@ -121,6 +137,7 @@ demand3 p d cs =
     let chain = trace-chained p cs fresh d (opened d) in
     record {
       each = every-right p (trace ruled p fresh d (opened d) cs) good;
+      outside = trace-outside p d cs fresh d (opened d) (outside-refl p d);
       again =
           λ before between after first second is. again-holds p (opened d) before between after first second (rw is at good)
           (rw is at chain);

@@ -7,6 +7,7 @@ use Prim.Native.Nat.{ℕ, _+_, _/_, _<_, _≤_}
 use lib.Dec.{eqb}
 use lib.ListN.{length, getD}
 use Rattle.rules.specs.Profile.{Profile}
+use Rattle.rules.specs.Commit.{OutsideKept}
 use Rattle.ledger.specs.Ledger.{Ledger, isReset, isWrite, isFinalize, writeAddress, writeData, replyCount}
 use Rattle.ledger.specs.Calls.{Call, Frame, Read, Board, Step, traced}
 
@@ -94,9 +95,11 @@ abbrev pub Every : (Step → Type 0) → List Step → Type 0
 Every P [] = Unit
 Every P (s ∷ ss) = P s × Every P ss
 
--- demand 3 of the steps of a whole list
-pub record Holds (p : Profile) (steps : List Step) : Type 0 where
+-- demand 3 of the steps of a whole list, whose flash was d at first
+pub record Holds (p : Profile) (d : List ℕ) (steps : List Step) : Type 0 where
   pub each : Every (Right p) steps
+  -- bytes outside O to O + S - 1 never change, at any step
+  pub outside : Every (λ s. OutsideKept p d (s .flash)) steps
   -- the same upload again counts 0
   pub again :
       (before between after : List Step) (first second : Step) → steps ≡ before ++ first ∷ between ++ second ∷ after
@@ -105,4 +108,4 @@ pub record Holds (p : Profile) (steps : List Step) : Type 0 where
 
 -- the claim: for every list of calls from the fresh board with any flash, under any one profile
 abbrev pub Demand3 : Board → Type 0
-Demand3 B = (p : Profile) (d : List ℕ) (cs : List Call) → Holds p (traced B p d cs)
+Demand3 B = (p : Profile) (d : List ℕ) (cs : List Call) → Holds p d (traced B p d cs)

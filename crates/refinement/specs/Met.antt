@@ -42,7 +42,7 @@ pub record Met (p : Profile) (s : State) (d : List ℕ) (hs : List Happened) : T
   -- where numbers 2 and 3 do not apply
   pub demand2 : inRange (profileOf p) ≡ true → p .offset + p .size ≤ length d
       → AllRight (profileOf p) (initially d (s .upload .count)) (stepsOf p d hs)
-  pub demand3 : Holds (profileOf p) (stepsOf p d hs)
+  pub demand3 : Holds (profileOf p) d (stepsOf p d hs)
 
 -- every list of calls of the code from the fresh board with any flash, under any one profile
 abbrev pub CodeMeetsDemands : Type 0

@@ -81,7 +81,7 @@ module _ (l : Line) (b : Board) (ready : Ready l b) (m : Message) where
       none-refused =
           rw answer-call
           (unrefused-refusal (l .profile) (call x .state) (length (call x .flash)) (l .buffer) (unrefused .in-range) (orderly .well-formed)
-          (omega (arith, unrefused .flash-holds, orderly .flash-length)) (unrefused .buffer-holds));
+          (omega (arith, unrefused .flash-holds, orderly .outside .length-kept)) (unrefused .buffer-holds));
       stopped = rw (answer-call, called, withReply-running (bus x) (withUpload (b .state) u) sent) (ready .stopped);
       heard = rw answer-call addressed-next;
       byte = ready .byte;

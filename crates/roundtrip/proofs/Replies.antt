@@ -164,7 +164,7 @@ module _ (x : Sending) (given : Given x) (code : ℕ) (arguments : List ℕ) (ta
                 read-again (x .profile) (call x) address buffer i
                 (unrefused-refusal (x .profile) (call x .state) (length (call x .flash)) buffer (unrefused .in-range)
                 (left-formed-call .well-formed)
-                (omega (arith, unrefused .flash-holds, left-formed-call .flash-length)) long)
+                (omega (arith, unrefused .flash-holds, left-formed-call .outside .length-kept)) long)
                 left-running heard (left-last i) some (rw called);
             longer =
                 λ more. rw reply-i2c (whole I2c code (x .to) asked status results more row tt (responding .status-known)

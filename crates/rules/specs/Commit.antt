@@ -1,9 +1,11 @@
 -- Document 01, "Commit", and how accepted bytes reach flash.
+use mathlib.Core.Path.{_≡_}
+use mathlib.Core.Logic.{_⊎_}
 use mathlib.Core.Bool.{cond}
 use mathlib.Core.List.{List, [], _∷_, _++_}
-use Prim.Native.Nat.{ℕ, suc, _+_, _-_, _*_, _/_, _%_}
+use Prim.Native.Nat.{ℕ, suc, _+_, _-_, _*_, _/_, _%_, _<_, _≤_}
 use lib.Dec.{eqb}
-use lib.ListN.{length, take, drop}
+use lib.ListN.{length, take, drop, getD}
 use Rattle.rules.specs.Bytes.{same, overlay}
 use Rattle.rules.specs.Profile.{Profile}
 use Rattle.rules.specs.State.{Upload}
@@ -46,3 +48,12 @@ takenAll p g (b ∷ bs) = takenAll p (taken p g b) bs
 -- finalize: a commit if bytes are waiting, else nothing
 unfoldable pub finalized : Profile → Progress → Progress
 finalized p g = cond (eqb (length (g .upload .waiting)) 0) g (committed p g)
+
+-- a place of the lent flash outside the working flash, which is O to O + S - 1
+abbrev pub Outside : Profile → ℕ → Type 0
+Outside p i = (i < p .offset) ⊎ (p .offset + p .size ≤ i)
+
+-- the flash e is as long as d, and its bytes outside are those of d
+pub record OutsideKept (p : Profile) (d e : List ℕ) : Type 0 where
+  pub length-kept : length e ≡ length d
+  pub bytes-kept : (i : ℕ) → Outside p i → getD e i 0 ≡ getD d i 0

@@ -49,7 +49,7 @@ module _ {p : Profile} {page : ℕ} {u₀ : Upload} (d₀ : List ℕ) (ready : R
         page-is = is;
         page-least = rw is (ready-bounds ready .profile .page-least);
         page-most = rw is (ready-bounds ready .profile .page-most);
-        flash-length = ap (λ (g : Progress). length (g .flash)) e ∙ kept .flash-length;
+        flash-length = ap (λ (g : Progress). length (g .flash)) e ∙ kept .outside .length-kept;
       }
 
   -- where the loop begins

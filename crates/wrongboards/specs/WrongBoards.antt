@@ -4,7 +4,7 @@ use mathlib.Core.Bool.{Bool, true, false, cond, not, _&&_, _||_}
 use mathlib.Core.List.{List, [], _∷_, _++_}
 use Prim.Native.Nat.{ℕ, suc, _+_, _-_, _%_}
 use lib.Dec.{eqb, ltb}
-use lib.ListN.{length, take, getD, replicate}
+use lib.ListN.{length, take, set, getD, replicate}
 use Rattle.rules.specs.Profile.{Profile}
 use Rattle.rules.specs.State.{State, Upload, withRunning, withUpload}
 use Rattle.rules.specs.CheckSums.{sumRight}
@@ -178,3 +178,10 @@ erasingReads p s d (Read a n) =
 
 abbrev pub readsErase : Board
 readsErase = boardBy erasingReads
+
+-- one whose finalize writes the byte behind the working flash
+abbrev pub writesOutside : Board
+writesOutside =
+    boardBy (λ p s d c.
+    let r : Reaction State = calls p s d c in
+    record { number = r .number; reply = r .reply; state = r .state; flash = cond (asks p c 0x07) (set (r .flash) (p .offset + p .size) 1) (r .flash) })

@@ -11,6 +11,7 @@ ghost use Rattle.wrongboards.specs.WrongBoards.{refusesWrites, okToAll, 
 ghost use Rattle.wrongboards.specs.WrongBoards.{fixedReply, padsLastPage, takesHalf, invalidCrcSent, countsUnchanged};
 ghost use Rattle.wrongboards.specs.WrongBoards.{finalizesOnStart, refusesFinalizes, changesReply, readsNothing, obeysForeign};
 ghost use Rattle.wrongboards.specs.WrongBoards.{ignoresStart, takesForeignType, silentFaults, answersWrong, refusedErases, readsErase};
+ghost use Rattle.wrongboards.specs.WrongBoards.{writesOutside};
 
 // The variations that the wrong boards are made by are right themselves: with the rules' own parts they are the board of the rules.
 pub fn varied_right()
@@ -126,4 +127,9 @@ pub fn refused_erases()
 // Flash erased by a read: demand 2, a read changes nothing.
 pub fn reads_erase()
     ensures { λ _. ⌜ (Demand2 readsErase → ⊥) ⌝ }
+{}
+
+// A byte written outside the working flash: demand 3, those never change.
+pub fn writes_outside()
+    ensures { λ _. ⌜ (Demand3 writesOutside → ⊥) ⌝ }
 {}
