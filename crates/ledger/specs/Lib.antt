@@ -2,3 +2,4 @@
 pub mod Ledger
 pub mod Calls
 pub mod Claim
+pub mod Reached
