@@ -136,7 +136,8 @@ module _ (x : Sending) (none : refusal (x .profile) (x .state) (length (x .flash
       rw form (verdict-reset (bus x) (x .profile .longest) (x .state .running) (x .state .address) (x .beside) beside) in
       (heard, received-handled (x .profile) (x .state) (x .flash) (x .beside) (frame x) (x .buffer) none ∙ rw heard)
 
-understood : (x : Sending) (a : Instruction) → frame x ≡ instructionBytes (bus x) (x .to) a → AllowedBy (bus x) (x .profile .longest) (x .to) a
+understood : (x : Sending) (a : Instruction) → frame x ≡ instructionBytes (bus x) (x .to) a
+    → AllowedBy (bus x) (x .profile .longest) (x .to) a
     → Beside (bus x) (x .beside) (target (x .to) a) → refusal (x .profile) (x .state) (length (x .flash)) (x .buffer) ≡ 0
     → AddressedBy (x .profile) (x .state) (x .to) a → Understood x a
 understood x (Commands code arguments) form allowed sent none heard = commanded x none code arguments form sent heard allowed
@@ -145,7 +146,8 @@ understood x BoardReset form allowed sent none heard = reset x none form sent
 
 -- the arguments as the commands read them
 
-carried : (b : Bus) (r : Request) (to : ℕ) (bytes : List ℕ) → Carried r bytes (argumentsOf b (instructionBytes b to (instructionOf r bytes)))
+carried : (b : Bus) (r : Request) (to : ℕ) (bytes : List ℕ)
+    → Carried r bytes (argumentsOf b (instructionBytes b to (instructionOf r bytes)))
 carried b (Plain code) to bytes = argumentsOf-request b to code []
 carried b (SetAddress address hardware) to bytes = rw (argumentsOf-request b to 0x01 (address ∷ hardware ∷ [])) (refl, refl)
 carried b (Write address) to bytes = rw (argumentsOf-request b to 0x06 (twoBytes address ++ bytes)) (div-add-mod' address 256, refl)

@@ -19,13 +19,17 @@ has-form-requires-2 : tie.Need-has-form-requires-2
 has-form-requires-2 c κs = search needs
 
 returns : tie.Need-returns
-returns c = rw (c .before .before .enum-told .given .1, eq-eqb _ _ (c .before .if1 .taken)) (rw (c .before .before .enum-told .given .1) at (c .has-form .ensures))
+returns c =
+    let told = c .before .before .enum-told .given .1 in
+    rw (told, eq-eqb _ _ (c .before .if1 .taken)) (rw told at (c .has-form .ensures))
 
 returns-2 : tie.Need-returns-2
 returns-2 c = rw (c .before .enum-told .given .1, ne-eqb _ _ (c .if1 .left))
 
 returns-3 : tie.Need-returns-3
-returns-3 c = rw (c .before .enum-told2 .given .1) ((rw (c .before .enum-told2 .given .1) at (c .has-form2 .ensures)) ∙ same-general _ (c .before .before .before .before .args .call))
+returns-3 c =
+    let told = c .before .enum-told2 .given .1 in
+    rw told ((rw told at (c .has-form2 .ensures)) ∙ same-general _ (c .before .before .before .before .args .call))
 
 pub is-general-spec : {M : Type 1} → statement M
 is-general-spec =

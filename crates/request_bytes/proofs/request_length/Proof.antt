@@ -17,22 +17,30 @@ enum-told-2 : tie.Need-enum-told-2
 enum-told-2 c = search needs
 
 add-result : tie.Need-add-result
-add-result c = omega (arith, c .before .before .shortest-request .ensures, shortestRequest-le (c .before .before .before .before .args .bus))
+add-result c =
+    let sized = c .before .before in
+    omega (arith, sized .shortest-request .ensures, shortestRequest-le (sized .before .before .args .bus))
 
 enum-told-3 : tie.Need-enum-told-3
 enum-told-3 c = search needs
 
 add-result-2 : tie.Need-add-result-2
-add-result-2 c = omega (arith, c .before .before .shortest-request .ensures, shortestRequest-le (c .before .before .before .before .args .bus))
+add-result-2 c =
+    let sized = c .before .before in
+    omega (arith, sized .shortest-request .ensures, shortestRequest-le (sized .before .before .args .bus))
 
 add-result-3 : tie.Need-add-result-3
-add-result-3 c = omega (arith, c .before .before .shortest-request .ensures, shortestRequest-le (c .before .before .before .before .args .bus))
+add-result-3 c =
+    let sized = c .before .before in
+    omega (arith, sized .shortest-request .ensures, shortestRequest-le (sized .before .before .args .bus))
 
 enum-told-4 : tie.Need-enum-told-4
 enum-told-4 c = search needs
 
 add-result-4 : tie.Need-add-result-4
-add-result-4 c = omega (arith, c .before .before .shortest-request .ensures, shortestRequest-le (c .before .before .before .before .args .bus))
+add-result-4 c =
+    let sized = c .before .before in
+    omega (arith, sized .shortest-request .ensures, shortestRequest-le (sized .before .before .args .bus))
 
 enum-told-5 : tie.Need-enum-told-5
 enum-told-5 c = search needs

@@ -64,14 +64,16 @@ returns-3 c =
 returns-4 : tie.Need-returns-4
 unfolding argumentWrong
 returns-4 c =
-    let start = c .before .before .before .before .before .before in
-    rw (c .before .before .before .request3 .given .1, ← add-two (length (start .args .bytes .now)), ← c .before .command-wrong3 .ensures, c .if2 .taken)
+    let asked = c .before .before .before in
+    let n = length (asked .before .before .before .args .bytes .now) in
+    rw (asked .request3 .given .1, ← add-two n, ← c .before .command-wrong3 .ensures, c .if2 .taken)
 
 returns-5 : tie.Need-returns-5
 unfolding argumentWrong
 returns-5 c =
-    let start = c .before .before .before .before .before .before in
-    rw (c .before .before .before .request3 .given .1, ← add-two (length (start .args .bytes .now)), ← c .before .command-wrong3 .ensures, c .if2 .left)
+    let asked = c .before .before .before in
+    let n = length (asked .before .before .before .args .bytes .now) in
+    rw (asked .request3 .given .1, ← add-two n, ← c .before .command-wrong3 .ensures, c .if2 .left)
 
 returns-6 : tie.Need-returns-6
 unfolding argumentWrong

@@ -1,7 +1,7 @@
 -- `updates::set_address` meets its contract: its test is the definition's, and the address is taken over.
 use mathlib.Core.Path.{sym, _∙_}
 use Rattle.laws.proofs.CommandLaws.{setAddress-outcomes}
-use borrow.Author.Tests.{eq-eqb, ne-eqb, not-true, not-false}
+use borrow.Author.Tests.{not-true, not-false}
 use borrow.Author.Needs.{needs}
 use Rattle.updates.proofs.set_address.Statement.{statement}
 use Rattle.updates.proofs.set_address.Tie as tie
