@@ -62,7 +62,7 @@ module _ (p : Profile) (k : Ledger) (a : ℕ) (f : List ℕ) (n : ℕ) where
   finished-answers s d =
       let g : Progress = finalized p (record { upload = s .upload; flash = d }) in
       let kept = withReply-upload (p .bus) (withUpload s (g .upload))
-          (reply (p .bus) (destination (p .bus) a f) ok (twoBytes (g .upload .count))) in
+      (reply (p .bus) (destination (p .bus) a f) ok (twoBytes (g .upload .count))) in
       record {
         number-is = refl;
         reply-is = ap (λ (u : Upload). reply (p .bus) (destination (p .bus) a f) ok (twoBytes (u .count))) (sym kept);

@@ -18,7 +18,7 @@ use Rattle.ledger.proofs.Kept.{Keeps, fresh-keeps, Closed}
 use Rattle.ledger.proofs.CallStep.{received-enters, readOut-keeps}
 use Rattle.ledger.proofs.Finish.{overlay-inside, overlay-outside, take-overlay, after-finalize-copy}
 use Rattle.ledger.proofs.Repeat.{Has}
-use Rattle.ledger.proofs.Again.{Chained, ends, again-zero}
+use Rattle.ledger.proofs.Again.{Link, Chained, ends, again-zero}
 
 -- what is claimed of a step, and what `Again` asks of a finalize
 record Good (p : Profile) (s : Step) : Type 0 where
@@ -71,10 +71,14 @@ unfolding trace
 trace-good p [] s d k i = tt
 trace-good p (c ∷ cs) s d k i = (call-good p s d k c i, trace-good p cs _ _ _ (call-keeps p s d k c i))
 
-trace-chained : (p : Profile) (cs : List Call) (s : State) (d : List ℕ) (k : Ledger) → Chained p k (trace ruled p s d k cs)
+call-link : (p : Profile) (s : State) (d : List ℕ) (k : Ledger) (c : Call) → Keeps p s d k → Link p k (stepped ruled p k c (calls p s d c))
+call-link p s d k (Frame a f m) i = record { fed-is = refl; ordered = received-enters p s d k a f m i .in-order }
+call-link p s d k (Read a m) i = record { fed-is = refl; ordered = tt }
+
+trace-chained : (p : Profile) (cs : List Call) (s : State) (d : List ℕ) (k : Ledger) → Keeps p s d k → Chained p k (trace ruled p s d k cs)
 unfolding trace
-trace-chained p [] s d k = tt
-trace-chained p (c ∷ cs) s d k = (refl, trace-chained p cs _ _ _)
+trace-chained p [] s d k i = tt
+trace-chained p (c ∷ cs) s d k i = (call-link p s d k c i, trace-chained p cs _ _ _ (call-keeps p s d k c i))
 
 every-right : (p : Profile) (ss : List Step) → Every (Good p) ss → Every (Right p) ss
 every-right p [] all = tt
@@ -125,7 +129,7 @@ again-holds p k before between after first second good chain e z again =
     let chain′ = chained-behind p k before (first ∷ rest) (rw (append-assoc before (first ∷ between)) at chain) .1 in
     let after-finalize = good′ .0 .after-finalize e in
     let has = after-finalize-has p (first .ledger) (good′ .0 .balanced) after-finalize in
-    let link = chained-behind p (first .ledger) between (second ∷ after) chain′ .0 in
+    let link = chained-behind p (first .ledger) between (second ∷ after) chain′ .0 .fed-is in
     every-behind p between (second ∷ after) (good′ .1) .0 .right .finished z .reply-count
     ∙ again-zero p (first .ledger) between second has (after-finalize .all-committed)
     (chained-front p (first .ledger) between (second ∷ after) chain′) again link z
@@ -134,7 +138,7 @@ pub demand3 : Demand3 ruled
 demand3 p d cs =
     let i = fresh-keeps p d d refl in
     let good = trace-good p cs fresh d (opened d) i in
-    let chain = trace-chained p cs fresh d (opened d) in
+    let chain = trace-chained p cs fresh d (opened d) i in
     record {
       each = every-right p (trace ruled p fresh d (opened d) cs) good;
       outside = trace-outside p d cs fresh d (opened d) (outside-refl p d);

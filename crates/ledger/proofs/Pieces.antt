@@ -50,7 +50,7 @@ length-none (x ∷ l) e = absurd (omega arith)
 
 module _ (p : Profile) (D bs : List ℕ) (has : Has p D bs) where
   -- a ledger opened anew, with all bytes to come
-  opened-repeats : (ys : List ℕ) (k : Ledger) → k .copy ≡ D → ys ≡ bs → Repeats D bs ys (opened (k .copy))
+  pub opened-repeats : (ys : List ℕ) (k : Ledger) → k .copy ≡ D → ys ≡ bs → Repeats D bs ys (opened (k .copy))
   opened-repeats ys k copy e = record { copy-is = copy; count-is = refl; committed-le = le-refl _; bytes-are = e }
 
   -- bytes that join, and then pieces that follow

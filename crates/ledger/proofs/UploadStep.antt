@@ -1,6 +1,7 @@
 -- Write and finalize, to a board that is not running and by a call that is not refused: bytes and commits keep step by `ByteStep`, the
 -- ledger reads the board's address and data by `FrameReading`, and a finalize's reply tells the ledger's count.
 use mathlib.Core.Path.{_≡_, refl, sym, ap, _∙_}
+use mathlib.Core.Logic.{_⊎_, inl, inr}
 use mathlib.Core.Bool.{Bool, true, false, cond, _&&_, _||_, false≢true}
 use mathlib.Core.List.{List, []}
 use Prim.Native.Nat.{ℕ, _+_, _<_, _≤_}
@@ -23,7 +24,7 @@ use Rattle.ledger.proofs.Consistency.{Consistent, opened-consistent, fi
 use Rattle.ledger.proofs.CommitStep.{Agrees, Paged}
 use Rattle.ledger.proofs.ByteStep.{Going, joinsAll-going, joinsAll-agrees, finalizes-agrees}
 use Rattle.ledger.proofs.FrameReading.{reply-count, answered-reply, write-address, write-data, entered-reply}
-use Rattle.ledger.proofs.Kept.{Keeps, keeps-last, Entered, error-no-entry}
+use Rattle.ledger.proofs.Kept.{Keeps, keeps-last, Entered, unwritten, error-no-entry}
 
 -- a call that is not refused, to a board that is not running
 pub record Serving (p : Profile) (s : State) (d : List ℕ) (k : Ledger) : Type 0 where
@@ -83,9 +84,18 @@ finished-enters p s d k a f address h code =
             count-replied = reply-count (p .bus) address ok (g .upload .count) ∙ agrees .count-is;
             after-finalize = finalizes-after-finalize p k (i .balanced .committed-le) room;
           });
+      in-order =
+          unwritten p k f 0 (reply (p .bus) address ok (twoBytes (g .upload .count)))
+          (answered-reply (p .bus) 0x06 f address ok (twoBytes (g .upload .count)) ∙ rw code);
     }
 
 -- write
+
+-- an accepted write is at 0 or at next
+accepted-place : (S next address n : ℕ) → accepted S next address n ≡ true → (address ≡ 0) ⊎ (address ≡ next)
+accepted-place S next address n e =
+    let place = &&-true (eqb address 0 || eqb address next) (leb (address + n) S) e .0 in
+    by-test (eqb address 0) (λ z. inl (eqb-true address 0 z)) (λ z. inr (eqb-true address next (rw z at place)))
 
 -- an accepted write begins anew at 0, and goes on at next
 begins-going : (p : Profile) (s : State) (d : List ℕ) (k : Ledger) (address n : ℕ) → Serving p s d k
@@ -137,6 +147,7 @@ module _ (p : Profile) (s : State) (d : List ℕ) (k : Ledger) (a : ℕ) (f : Li
       record {
         keeps = agrees-replied p s g _ (joinsAll p k′ bytes) _ agrees balanced enters;
         closes = λ some. absurd (false≢true (sym (answered-reply (p .bus) 0x07 f to ok [] ∙ rw code) ∙ some));
+        in-order = λ some. rw (← at, ← h .agrees .next-is) (accepted-place (p .size) (s .upload .next) address (length bytes) e);
       }
 
   pub written-enters : 2 ≤ length (argumentsOf (p .bus) f)

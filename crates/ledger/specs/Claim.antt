@@ -1,14 +1,14 @@
 -- Demand 3, as one claim about the whole list of calls, stated over any board.
 use mathlib.Core.Path.{_≡_}
 use mathlib.Core.Logic.{_⊎_}
-use mathlib.Core.Bool.{Bool, true, false, cond, _&&_, not}
+use mathlib.Core.Bool.{Bool, true, false, cond, _&&_}
 use mathlib.Core.List.{List, [], _∷_, _++_}
 use Prim.Native.Nat.{ℕ, _+_, _/_, _<_, _≤_}
 use lib.Dec.{eqb}
 use lib.ListN.{length, getD}
 use Rattle.rules.specs.Profile.{Profile}
 use Rattle.rules.specs.Commit.{OutsideKept}
-use Rattle.ledger.specs.Ledger.{Ledger, isReset, isWrite, isFinalize, writeAddress, writeData, replyCount}
+use Rattle.ledger.specs.Ledger.{Ledger, isWrite, isFinalize, writeAddress, writeData, replyCount}
 use Rattle.ledger.specs.Calls.{Call, Frame, Read, Board, Step, traced}
 
 -- the step is an answered finalize
@@ -18,14 +18,6 @@ finalizing p s (Read a n) = false
 
 abbrev pub finalizeStep : Profile → Step → Bool
 finalizeStep p s = finalizing p s (s .call)
-
--- the step is a reset
-abbrev pub resetting : Profile → Step → Call → Bool
-resetting p s (Frame a f n) = isReset (p .bus) a f (s .number)
-resetting p s (Read a n) = false
-
-abbrev pub resetStep : Profile → Step → Bool
-resetStep p s = resetting p s (s .call)
 
 -- an accepted write: its address and its data
 pub record Piece : Type 0 where
@@ -42,11 +34,6 @@ unfoldable pub pieces : Profile → List Step → List Piece
 pieces p [] = []
 pieces p (s ∷ ss) = writing p s (s .call) ++ pieces p ss
 
--- no step is a reset
-unfoldable pub noReset : Profile → List Step → Bool
-noReset p [] = true
-noReset p (s ∷ ss) = not (resetStep p s) && noReset p ss
-
 -- each piece begins where the one before ended
 abbrev pub follow : ℕ → List Piece → Bool
 follow at [] = true
@@ -62,9 +49,8 @@ abbrev pub joined : List Piece → List ℕ
 joined [] = []
 joined (w ∷ ws) = w .bytes ++ joined ws
 
--- the bytes are accepted again in these steps, with no reset or other accepted write between
+-- the bytes are accepted again in these steps, with no other accepted write between
 pub record AcceptedAgain (p : Profile) (bytes : List ℕ) (steps : List Step) : Type 0 where
-  pub no-reset : noReset p steps ≡ true
   pub from-zero : fromZero (pieces p steps) ≡ true
   pub same-bytes : joined (pieces p steps) ≡ bytes
 

@@ -10,12 +10,12 @@ use Rattle.rules.specs.Commands.{tabled, setAddress, written, finished, shown, 
 use Rattle.rules.specs.Board.{handled, received, readOut}
 use Rattle.ledger.specs.Ledger.{commits, joins, joinsAll, writes, finalizes, entered}
 use Rattle.ledger.specs.Calls.{trace}
-use Rattle.ledger.specs.Claim.{pieces, noReset}
+use Rattle.ledger.specs.Claim.{pieces}
 use Rattle.demands.specs.Past.{wellFramed, afterFrame, lastAfter}
 
 unfoldable pub computing : Unit {0}
 unfolding same overlay inRange uploadFormed wellFormed refusal
     bit byte run sum sealed sumRight request reply resetFrame resetAddressFrame addressed framing verdict
     committed taken takenAll finalized tabled setAddress written finished shown performed executed handled received readOut
-    commits joins joinsAll writes finalizes entered trace pieces noReset wellFramed afterFrame lastAfter
+    commits joins joinsAll writes finalizes entered trace pieces wellFramed afterFrame lastAfter
 computing = tt

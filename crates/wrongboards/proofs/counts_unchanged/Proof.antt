@@ -31,7 +31,7 @@ refused h =
     let holds = h (small I2c 64) (zeros 64) calls in
     let again : _≡_ {A = ℕ} 1 0 =
     holds .again (step 0 ∷ []) (step 2 ∷ []) [] (step 1) (step 3) refl refl refl
-    (record { no-reset = refl; from-zero = refl; same-bytes = refl }) in
+    (record { from-zero = refl; same-bytes = refl }) in
     omega arith
 
 returns : tie.Need-returns
