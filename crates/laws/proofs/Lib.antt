@@ -1,7 +1,9 @@
 pub mod TestLaws
 pub mod BytesLaws
+pub mod OverlayLaws
 pub mod CommitLaws
 pub mod CheckSumLaws
+pub mod SizeLaws
 pub mod StateLaws
 pub mod LaidLaws
 pub mod UploadLaws

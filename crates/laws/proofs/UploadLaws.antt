@@ -15,7 +15,7 @@ use Rattle.rules.specs.State.{Upload}
 use Rattle.rules.specs.Commit.{Progress, pageStart, committed, taken, takenAll, finalized}
 use Rattle.laws.proofs.TestLaws.{by-test}
 use Rattle.laws.proofs.BytesLaws.{length-overlay}
-use Rattle.laws.proofs.CommitLaws.{Fitting, placed, standing, raise, committed-overlay, suc-mod-below, suc-mod-end}
+use Rattle.laws.proofs.CommitLaws.{Fitting, placed, standing, raise, raise-le, committed-overlay, suc-mod-below, suc-mod-end}
 use Rattle.laws.proofs.StateLaws.{ProfileFacts, UploadFacts}
 
 -- the page that a commit finds
@@ -68,10 +68,6 @@ suc-mod-inner page n pos inner =
 pub record Kept (p : Profile) (d : List ℕ) (g : Progress) : Type 0 where
   pub formed : UploadFacts (p .page) (p .size) (g .upload)
   pub flash-length : length (g .flash) ≡ length d
-
-raise-le : (b : Bool) → raise b ≤ 1
-raise-le true = omega arith
-raise-le false = omega arith
 
 -- a commit uses up at least one waiting byte, which pays for the count
 committed-kept : (p : Profile) (g : Progress) → Fitting p g → 0 < length (g .upload .waiting)
