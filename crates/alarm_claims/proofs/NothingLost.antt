@@ -14,11 +14,11 @@ use Rattle.rules.specs.Bytes.{overlay}
 use Rattle.rules.specs.Commit.{Progress, finalized}
 use Rattle.rules.specs.Commands.{finished}
 use Rattle.laws.proofs.BytesLaws.{length-overlay}
+use Rattle.laws.proofs.OverlayLaws.{getD-overlay-inside}
 use Rattle.laws.proofs.CommitLaws.{standing, noneWaiting, raise, committed-overlay}
 use Rattle.laws.proofs.StateLaws.{refusal-unrefused}
 use Rattle.laws.proofs.TestLaws.{by-test}
 use Rattle.laws.proofs.UploadLaws.{formed-fitting}
-use Rattle.ledger.proofs.Finish.{overlay-inside}
 use Rattle.byte_parts.specs.Parts.{standsAt}
 use Rattle.lost_bytes.specs.Lost.{firstWaiting, waitsAt, lostByte, lostFrom, lostBytes}
 use Rattle.alarm_claims.specs.Claims.{KeptLosesNothing, FinalizeLosesNothing}
@@ -62,7 +62,7 @@ laid-loses-nothing O u after d fits =
     (λ i below.
     let place : O + (firstWaiting u + i) ≡ at + i = omega arith in
     let inside : getD (drop O new) (firstWaiting u + i) 0 ≡ getD (u .waiting) i 0 =
-    getD-drop O new (firstWaiting u + i) 0 ∙ ap (λ (n : ℕ). getD new n 0) place ∙ overlay-inside d at (u .waiting) fits i below in
+    getD-drop O new (firstWaiting u + i) 0 ∙ ap (λ (n : ℕ). getD new n 0) place ∙ getD-overlay-inside d at (u .waiting) fits i below in
     let long : firstWaiting u + i < length (drop O new) =
     omega (arith, length-drop O new, length-overlay d at (u .waiting) fits) in
     let there = stands (drop O new) (firstWaiting u + i) (getD (u .waiting) i 0) long inside in

@@ -14,6 +14,7 @@ use Rattle.rules.specs.Responses as responses
 use Rattle.rules.specs.Responses.{Acted, Reply, NoReply}
 use Rattle.rules.specs.Board.{finishedCall, withReply, nothing}
 use Rattle.laws.proofs.CommandLaws.{length-reply}
+use Rattle.laws.proofs.OverlayLaws.{take-overlay, drop-overlay}
 use Rattle.laws.proofs.LaidLaws.{take-laid}
 use Rattle.state.specs.View.{view}
 use Rattle.response.specs.declared.Response.{Response}
@@ -23,32 +24,12 @@ use Rattle.response.specs.Done as buffered
 use Rattle.frame.specs.Reply.{Closing, resultsAt}
 use Rattle.answer.specs.Answered.{CallEffect, expectedEffect}
 
-module _ (o : List ℕ) (at : ℕ) (bytes : List ℕ) (fits : at + length bytes ≤ length o) where
-  -- the bytes laid over a list stand there
-  pub part-overlay : take (length bytes) (drop at (overlay o at bytes)) ≡ bytes
-  unfolding overlay
-  part-overlay =
-      rw (append-assoc (take at o) bytes, drop-at (take at o) (bytes ++ drop (at + length bytes) o) at (length-take-le at o (omega arith)))
-      (take-append-seam bytes (drop (at + length bytes) o))
-
-  -- and the list behind them is as it was
-  pub drop-overlay : (k : ℕ) → at + length bytes ≤ k → drop k (overlay o at bytes) ≡ drop k o
-  unfolding overlay
-  drop-overlay k past =
-      let front : length (take at o ++ bytes) ≡ at + length bytes = simp (length-append, length-take) (omega arith) in
-      let place : k ≡ length (take at o ++ bytes) + (k - (at + length bytes)) = omega (arith, front) in
-      let behind : at + length bytes + (k - (at + length bytes)) ≡ k = omega arith in
-      ap (λ (n : ℕ). drop n (take at o ++ bytes ++ drop (at + length bytes) o)) place
-      ∙ drop-append-add (take at o ++ bytes) (drop (at + length bytes) o) (k - (at + length bytes))
-      ∙ drop-drop (k - (at + length bytes)) (at + length bytes) o
-      ∙ ap (λ (n : ℕ). drop n o) behind
-
 -- the buffer of a closed reply
 closed-laid : (bus : Bus) (to status : ℕ) (results o out1 out2 : List ℕ) → length results + shortestReply bus ≤ length o
     → out1 ≡ overlay o (headerLength bus + 2) results → out2 ≡ laid (reply bus to status (resultsAt bus (length results) out1)) out1
     → out2 ≡ laid (reply bus to status results) o
 closed-laid bus to status results o out1 out2 room e f =
-    let there : resultsAt bus (length results) out1 ≡ results = rw e (part-overlay o (headerLength bus + 2) results (omega arith)) in
+    let there : resultsAt bus (length results) out1 ≡ results = rw e (take-overlay o (headerLength bus + 2) results (omega arith)) in
     let whole = reply bus to status results in
     let behind : drop (length whole) out1 ≡ drop (length whole) o =
     rw e (drop-overlay o (headerLength bus + 2) results (omega arith) (length whole) (omega (arith, length-reply bus to status results))) in

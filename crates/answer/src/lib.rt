@@ -9,7 +9,6 @@ ghost use mathlib.Core.Path.{_≡_};
 ghost use mathlib.Core.List.{List, []};
 ghost use Prim.Native.Nat.{ℕ, _+_, _≤_};
 ghost use lib.ListN.{length};
-ghost use Rattle.rules.specs.Frames as frames;
 ghost use Rattle.rules.specs.Frames.{headerLength};
 ghost use Rattle.rules.specs.Responses as responses;
 ghost use Rattle.rules.specs.Responses.{Acted};
@@ -21,16 +20,6 @@ ghost use Rattle.answer.specs.Answered.{silent, callEffect, expectedEffe
 pub struct Answer {
     pub outcome: Outcome,
     pub state: State,
-}
-
-// Where a frame was sent: I²C the address beside it, RS485 its first byte.
-pub fn destination(bus: Bus, address: u8, frame: &[u8]) -> u8
-    ensures { λ r. ⌜ r ≡ frames.destination bus address (now (frame .entry)) ⌝ }
-{
-    match bus {
-        Bus::I2c => address,
-        Bus::Rs485 => if frame.len() == 0 { 0 } else { frame[0] },
-    }
 }
 
 // Nothing to send.

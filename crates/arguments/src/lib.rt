@@ -1,6 +1,6 @@
 // Document 01, "Commands": the fixed table of argument lengths, looked up by command code. Board, encoder and decoder know from here what
 // is served.
-use widening::wide;
+use byte_slices::wide;
 ghost use mathlib.Core.Path.{_≡_};
 ghost use Prim.Native.Nat.{ℕ};
 ghost use lib.ListN.{getD};

@@ -64,7 +64,7 @@ fn are_same(a: &[u8], b: &[u8], n: usize) -> bool {
     if b.len() < n {
         return true;
     }
-    flash::matches(&a[0..n], &b[0..n])
+    byte_slices::matches(&a[0..n], &b[0..n])
 }
 
 // Other bytes wait than before, and as many.

@@ -116,7 +116,7 @@ pub fn is_image(e: Exchange, from: usize, end: usize, memory: &[u8]) -> bool {
     let last = min(end, FLASH);
     let first = min(from, last);
     let bytes = e.reply.bytes;
-    flash::matches(
+    byte_slices::matches(
         part(&bytes, e.result.start, e.result.len),
         memory::part(memory, IMAGE + first, last - first),
     )

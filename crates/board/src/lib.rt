@@ -1,9 +1,9 @@
 // The board: a received frame goes in with profile, state, lent flash and a lent reply buffer; an answer and the new state come out.
 // It takes any bytes at all. The other call of a board, an I²C read, is `readout::read`.
 use answer::Answer;
-use answer::destination;
 use answer::fault;
 use answer::no_reply;
+use frame::request::destination;
 use profile::Profile;
 use refusal::Check;
 use response::INVALID_CRC;

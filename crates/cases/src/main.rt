@@ -3,6 +3,7 @@
 // number. A line has at most 65,535 bytes; a longer one ends the run.
 mod boards;
 
+use byte_slices::wide;
 use case_masters::call_master;
 use case_setup::fields::Fields;
 use case_setup::fields::fields_of;
@@ -132,10 +133,6 @@ fn one_line(number: u64, line: &[u8], setup: Setup, flash: &mut [u8]) -> Setup {
             setup
         }
     }
-}
-
-fn wide(b: u8) -> usize {
-    b as usize
 }
 
 // The next byte of the input; 256 at its end.

@@ -1,10 +1,15 @@
-// The check sums of document 01, "Frames and check sums": CRC-8, CRC-16, and whether a frame ends in its own.
+// The check sums of document 01, "Frames and check sums": CRC-8, CRC-16, a frame's check sum by the bus, and
+// whether a frame ends in its own.
 // `crc_steps` takes a byte in.
+use byte_slices::low_first;
+use byte_slices::matches;
 use crc_steps::crc8_byte;
 use crc_steps::crc16_byte;
+use frame_sizes::sum_length;
 use rules::kinds::Bus;
 ghost use mathlib.Core.Path.{_≡_};
-ghost use Rattle.rules.specs.CheckSums.{crc, crc8, crc16, sumRight};
+ghost use lib.ListN.{take};
+ghost use Rattle.rules.specs.CheckSums.{crc, crc8, crc16, sum, sumLength, sumRight};
 
 // The CRC-8 of the bytes.
 pub fn crc8(s: &[u8]) -> u8
@@ -32,40 +37,25 @@ pub fn crc16(s: &[u8]) -> u16
     v
 }
 
-// An I²C frame ends in the CRC-8 of what comes before.
-fn crc8_right(frame: &[u8]) -> bool
-    ensures { λ r. ⌜ r ≡ sumRight Bus.I2c (now (frame .entry)) ⌝ }
+// The check sum's bytes as they stand in a frame. On I²C it has one; the second then means nothing.
+pub fn sum_bytes(bus: Bus, s: &[u8]) -> [u8; 2]
+    ensures { λ r. ⌜ take (sumLength bus) r ≡ sum bus (now (s .entry)) ⌝ }
 {
-    let n = frame.len();
-    if n < 1 {
-        return false;
+    match bus {
+        Bus::I2c => [crc8(s), 0],
+        Bus::Rs485 => low_first(crc16(s)),
     }
-    let end = n - 1;
-    let v = crc8(&frame[..end]);
-    frame[end] == v
-}
-
-// An RS485 frame ends in the CRC-16 of what comes before, low byte first.
-fn crc16_right(frame: &[u8]) -> bool
-    ensures { λ r. ⌜ r ≡ sumRight Bus.Rs485 (now (frame .entry)) ⌝ }
-{
-    let n = frame.len();
-    if n < 2 {
-        return false;
-    }
-    let end = n - 2;
-    let v = crc16(&frame[..end]);
-    let low = (v % 256) as u8;
-    let high = (v / 256) as u8;
-    frame[end] == low && frame[end + 1] == high
 }
 
 // A frame ends in the check sum of what comes before. Frames too short to hold one do not.
 pub fn sum_right(bus: Bus, frame: &[u8]) -> bool
     ensures { λ r. ⌜ r ≡ sumRight bus (now (frame .entry)) ⌝ }
 {
-    match bus {
-        Bus::I2c => crc8_right(frame),
-        Bus::Rs485 => crc16_right(frame),
+    let k = sum_length(bus);
+    if frame.len() < k {
+        return false;
     }
+    let end = frame.len() - k;
+    let sum = sum_bytes(bus, &frame[..end]);
+    matches(&frame[end..], &sum[..k])
 }

@@ -4,7 +4,6 @@ use reply_tests::length_right;
 use reply_tests::results_missing;
 use rules::kinds::Bus;
 use rules::requests::Decoded;
-use widening::wide;
 ghost use mathlib.Core.Path.{_≡_};
 ghost use Prim.Native.Nat.{_+_, _≤_};
 ghost use lib.ListN.{length};
@@ -31,8 +30,7 @@ fn open_reply(
     if from_other(bus, address, reply) {
         return Decoded::OtherAddress;
     }
-    let header = frame_sizes::header_length(bus);
-    let status = reply[header];
+    let status = frame::reply::status(bus, reply);
     if 5 < status {
         return Decoded::StatusUnknown;
     }
@@ -41,7 +39,7 @@ fn open_reply(
     }
     Decoded::Reply {
         status,
-        start: header + 2,
+        start: frame::reply::results_start(bus),
         len: n,
     }
 }
@@ -56,8 +54,7 @@ pub fn decode(bus: Bus, code: usize, address: usize, asked: usize, reply: &[u8])
     if reply.len() < frame_sizes::shortest_reply(bus) {
         return Decoded::TooShort;
     }
-    let header = frame_sizes::header_length(bus);
-    let n = wide(reply[header + 1]);
+    let n = frame::reply::count(bus, reply);
     if !length_right(bus, n, reply.len()) {
         return Decoded::LengthWrong;
     }

@@ -4,14 +4,13 @@ use mathlib.Core.Bool.{Bool, true, false, _&&_}
 use mathlib.Core.List.{List, [], _∷_, _++_, append-assoc}
 use Prim.Native.Nat.{ℕ, zero, suc, _+_, _*_, _/_, _%_, _^_, _≤_, _<_}
 use native.Mathlib.Omega.{arith}
-use native.Mathlib.Nat.{zero-add, div-div-eq-div-mul}
+use native.Mathlib.Nat.{div-div-eq-div-mul}
 use native.Mathlib.Numerals.{add-one}
 use lib.ListN.{length, take, drop, getD, length-append, length-drop, take-append-drop}
 use lib.Seq.{take-add, drop-drop, drop-cons, length-take-le}
-use Rattle.rules.specs.Bytes.{overlay}
 use Rattle.rules.specs.Numbers.{laid}
-use Rattle.laws.proofs.LaidLaws.{take-laid, drop-laid}
-use Rattle.fields.specs.Fields.{Bytes, part, fourAt, fourBytes}
+use Rattle.byte_slices.specs.Four.{fourAt, fourBytes}
+use Rattle.fields.specs.Fields.{Bytes, part}
 
 -- numbers of four bytes
 
@@ -81,17 +80,6 @@ laid-part front b n room =
     length-append front (part b (length front) n)
     ∙ ap (λ (k : ℕ). length front + k) (length-take-le n (drop (length front) b) (simp length-drop (omega arith))) in
     rw (long, append-assoc, ← drop-drop n (length front) b, take-append-drop)
-
--- bytes stored at the front
-pub overlay-first : (xs out : List ℕ) → overlay out 0 xs ≡ laid xs out
-unfolding overlay
-overlay-first xs out = rw zero-add
-
--- bytes stored behind those laid
-pub overlay-laid : (xs ys out : List ℕ) (n : ℕ) → length xs ≡ n → overlay (laid xs out) n ys ≡ laid (xs ++ ys) out
-unfolding overlay
-overlay-laid xs ys out n e =
-    rw (take-laid xs out n e, ← e, drop-laid xs out (length ys)) (ap (λ (k : ℕ). xs ++ ys ++ drop k out) (sym (length-append xs ys)))
 
 -- a byte that is 0 or 1
 pub zero-or-one : (P : ℕ → Type 0) (n : ℕ) → n ≤ 1 → P 0 → P 1 → P n

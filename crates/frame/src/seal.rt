@@ -1,4 +1,6 @@
-// The check sum behind the bytes of a frame.
+// The check sum behind the bytes of a frame. Whether it is right is `crc::sum_right`.
+use crc::sum_bytes;
+use frame_sizes::sum_length;
 use rules::kinds::Bus;
 ghost use mathlib.Core.Path.{_≡_};
 ghost use Prim.Native.Nat.{_+_, _≤_};
@@ -11,17 +13,8 @@ pub fn seal(bus: Bus, buffer: &mut [u8], n: usize) -> usize
     requires { ⌜ n + sumLength bus ≤ length (now buffer) ⌝ }
     ensures { λ r. ⌜ Sealing bus n (now (buffer .entry)) (now (buffer .exit)) r ⌝ }
 {
-    match bus {
-        Bus::I2c => {
-            let v = crc::crc8(&buffer[..n]);
-            buffer[n] = v;
-            n + 1
-        }
-        Bus::Rs485 => {
-            let v = crc::crc16(&buffer[..n]);
-            buffer[n] = (v % 256) as u8;
-            buffer[n + 1] = (v / 256) as u8;
-            n + 2
-        }
-    }
+    let k = sum_length(bus);
+    let sum = sum_bytes(bus, &buffer[..n]);
+    byte_slices::store(buffer, n, &sum[..k]);
+    n + k
 }

@@ -28,18 +28,12 @@ pub fn sum_length(bus: Bus) -> usize
 pub fn shortest_request(bus: Bus) -> usize
     ensures { λ r. ⌜ r ≡ shortestRequest bus ⌝ }
 {
-    match bus {
-        Bus::I2c => 2,
-        Bus::Rs485 => 4,
-    }
+    header_length(bus) + 1 + sum_length(bus)
 }
 
 // A reply with no results.
 pub fn shortest_reply(bus: Bus) -> usize
     ensures { λ r. ⌜ r ≡ shortestReply bus ⌝ }
 {
-    match bus {
-        Bus::I2c => 3,
-        Bus::Rs485 => 5,
-    }
+    header_length(bus) + 2 + sum_length(bus)
 }

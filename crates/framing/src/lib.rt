@@ -1,5 +1,6 @@
 // A frame that is neither general call, by length, check sum and address: what it is to a board, by name.
 use addressing::addressed;
+use frame_sizes::shortest_request;
 use rules::kinds::Address;
 use rules::kinds::Bus;
 use rules::kinds::Reason;
@@ -17,7 +18,7 @@ pub fn i2c_framing(longest: usize, own: Address, to: u8, frame: &[u8]) -> Verdic
     if !addressed(Bus::I2c, own, to) {
         return Verdict::Ignored(Reason::Foreign(Bus::I2c));
     }
-    if frame.len() < 2 {
+    if frame.len() < shortest_request(Bus::I2c) {
         return Verdict::BadTransfer;
     }
     if longest < frame.len() {
@@ -33,7 +34,7 @@ pub fn i2c_framing(longest: usize, own: Address, to: u8, frame: &[u8]) -> Verdic
 pub fn rs485_framing(longest: usize, own: Address, frame: &[u8]) -> Verdict
     ensures { λ r. ⌜ r ≡ framing Bus.Rs485 longest own 0 (now (frame .entry)) ⌝ }
 {
-    if frame.len() < 4 {
+    if frame.len() < shortest_request(Bus::Rs485) {
         return Verdict::Ignored(Reason::Short);
     }
     if longest < frame.len() {

@@ -48,7 +48,7 @@ fn has_form(bus: Bus, frame: &[u8], call: General) -> bool
 {
     let n = general_length(bus);
     let bytes = form(bus, call);
-    flash::matches(frame, &bytes[..n])
+    byte_slices::matches(frame, &bytes[..n])
 }
 
 // A received frame is a general call.

@@ -1,16 +1,33 @@
--- Laws of `same` and `overlay`: a loop that compares, bytes laid over a list, and bytes laid within a part of it.
+-- Laws of `same` and `overlay`: a loop that compares, bytes laid over a list, and bytes laid within a part of it. What then stands at a
+-- place is in `OverlayLaws`.
 use mathlib.Core.Path.{_≡_, refl, sym, ap, _∙_}
 use mathlib.Core.List.{List, [], _∷_, _++_, append-assoc, append-nil}
 use mathlib.Core.Bool.{Bool, true, false, _&&_}
-use Prim.Native.Nat.{ℕ, _+_, _-_, _<_, _≤_}
+use Prim.Native.Nat.{ℕ, zero, suc, _+_, _-_, _<_, _≤_}
 use native.Mathlib.Omega.{arith}
-use native.Mathlib.Nat.{add-zero, add-assoc}
+use native.Mathlib.Nat.{add-zero, add-assoc, sub-zero, zero-sub, suc-sub-suc}
 use native.Mathlib.Numerals.{add-one}
 use lib.Dec.{eqb}
 use lib.ListN.{length, getD, take, drop, length-append, length-take, length-drop, take-append-drop, drop-of-length-le}
-use lib.Seq.{drop-cons, take-add, take-at, drop-at, drop-drop, drop-append-le, length-take-le, take-take}
+use lib.Seq.{drop-cons, take-add, take-at, drop-at, drop-drop, drop-append-le, length-take-le, take-take, take-nil, take-all}
 use borrow.Author.Tests.{eqb-true, eq-eqb, ne-eqb}
 use Rattle.rules.specs.Bytes.{same, overlay}
+
+-- a list of no elements
+pub length-zero : (l : List ℕ) → length l ≡ 0 → l ≡ []
+length-zero [] e = refl
+length-zero (x ∷ xs) e = absurd (omega arith)
+
+-- a part of a list, cut before or behind first
+pub drop-take : (n m : ℕ) (l : List ℕ) → drop n (take m l) ≡ take (m - n) (drop n l)
+drop-take zero m l = rw sub-zero
+drop-take (suc n) zero l = rw zero-sub
+drop-take (suc n) (suc m) [] = sym (take-nil (suc m - suc n))
+drop-take (suc n) (suc m) (x ∷ l) = rw suc-sub-suc (drop-take n m l)
+
+-- all of a list behind its first k
+pub take-rest : (l : List ℕ) (k : ℕ) → take (length l - k) (drop k l) ≡ drop k l
+take-rest l k = take-all (length l - k) (drop k l) (rw length-drop (omega arith))
 
 -- same
 

@@ -20,6 +20,7 @@ use Rattle.rules.specs.Commands.{setAddress, hardwareInfo, serialNumber, starte
 use Rattle.rules.specs.Commands.{addressTaken, performed, executed, tabled, lengthAllowed}
 use Rattle.laws.proofs.StateLaws.{ProfileFacts, UploadFacts}
 use Rattle.laws.proofs.CheckSumLaws.{length-sealed}
+use Rattle.laws.proofs.SizeLaws.{shortestReply-le}
 use Rattle.laws.proofs.TestLaws.{by-test, &&-true}
 use Rattle.laws.proofs.UploadLaws.{takenAll-kept, finalized-kept, outside-refl}
 
@@ -27,10 +28,6 @@ pub length-reply : (bus : Bus) (a status : ℕ) (results : List ℕ) → length 
 unfolding reply
 length-reply I2c a status results = omega (arith, length-sealed I2c (status ∷ length results ∷ results))
 length-reply Rs485 a status results = omega (arith, length-sealed Rs485 (a ∷ status ∷ length results ∷ results))
-
-pub shortestReply-le : (bus : Bus) → shortestReply bus ≤ 5
-shortestReply-le I2c = omega arith
-shortestReply-le Rs485 = omega arith
 
 -- the response of a command fits a frame of M bytes
 abbrev pub Fits : Profile → Response → Type 0

@@ -63,6 +63,10 @@ abbrev pub raise : Bool → ℕ
 raise true = 0
 raise false = 1
 
+pub raise-le : (b : Bool) → raise b ≤ 1
+raise-le true = omega arith
+raise-le false = omega arith
+
 -- a commit of nothing
 pub committed-none : (p : Profile) (g : Progress) → g .upload .waiting ≡ []
     → committed p g ≡ record { upload = noneWaiting (g .upload) 0; flash = g .flash }

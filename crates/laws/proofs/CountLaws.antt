@@ -15,11 +15,13 @@ use Rattle.rules.specs.Bytes.{same}
 use Rattle.rules.specs.Profile.{Profile}
 use Rattle.rules.specs.State.{Upload}
 use Rattle.rules.specs.Commit.{Progress, pageStart, committed, taken, takenAll, finalized}
+use Rattle.laws.proofs.BytesLaws.{length-zero}
+use Rattle.laws.proofs.OverlayLaws.{drop-overlay}
 use Rattle.laws.proofs.CommitLaws.{placed, standing, raise, committed-overlay, takenAll-append, suc-mod-below}
-use Rattle.laws.proofs.StateLaws.{length-zero, ProfileFacts}
+use Rattle.laws.proofs.StateLaws.{ProfileFacts}
 use Rattle.laws.proofs.TestLaws.{by-test}
 use Rattle.laws.proofs.UploadLaws.{suc-mod-inner, more, length-more, more-fitting, formed-fitting, takenAll-kept}
-use Rattle.laws.proofs.ImageLaws.{begins, begins-formed, Paged, takenAll-paged, drop-overlay}
+use Rattle.laws.proofs.ImageLaws.{begins, begins-formed, Paged, takenAll-paged}
 
 -- the part of an image that goes into its page k
 abbrev pub pageOf : ℕ → List ℕ → ℕ → List ℕ
@@ -85,7 +87,7 @@ module _ (p : Profile) (facts : ProfileFacts p) (d : List ℕ) (room : p .offset
         let whole : length (take (pageStart (p .page) n) image) ≡ pageStart (p .page) n =
         length-take-le (pageStart (p .page) n) image (omega (arith, div-add-mod' n (p .page))) in
         rw (paged .flash-is) (rw whole at (drop-overlay d (p .offset) (take (pageStart (p .page) n) image)
-        (omega (arith, div-add-mod' n (p .page)))))
+        (omega (arith, div-add-mod' n (p .page))) (p .offset + length (take (pageStart (p .page) n) image)) (omega arith)))
 
     waiting-length : length (before .upload .waiting) ≡ n % p .page
     waiting-length = rw (paged .waiting-is) (length-drop (pageStart (p .page) n) image ∙ omega (arith, div-add-mod' n (p .page)))

@@ -13,9 +13,9 @@ use Rattle.rules.specs.Bytes.{overlay}
 use Rattle.rules.specs.Profile.{Profile}
 use Rattle.rules.specs.State.{Upload, freshUpload}
 use Rattle.rules.specs.Commit.{Progress, pageStart, taken, takenAll, finalized}
-use Rattle.laws.proofs.BytesLaws.{length-overlay, overlay-none, overlay-overlay}
+use Rattle.laws.proofs.BytesLaws.{length-zero, length-overlay, overlay-none, overlay-overlay}
 use Rattle.laws.proofs.CommitLaws.{placed, committed-overlay}
-use Rattle.laws.proofs.StateLaws.{length-zero, ProfileFacts, UploadFacts}
+use Rattle.laws.proofs.StateLaws.{ProfileFacts, UploadFacts}
 use Rattle.laws.proofs.TestLaws.{by-test}
 use Rattle.laws.proofs.UploadLaws.{suc-mod-inner, more, length-more, more-fitting, waiting-committed, next-committed}
 use Rattle.laws.proofs.UploadLaws.{next-taken, formed-fitting, takenAll-kept}
@@ -162,43 +162,3 @@ takenAll-paged p facts d room image fits =
           stands .flash-is ∙ ap (overlay d (p .offset))
           (sym (ap (take (pageStart (p .page) (length image))) (stands .parts) ∙ take-at (stands .done) (g .upload .waiting) _ many));
     }
-
--- bytes laid over a list, seen from outside
-
-module _ (d : List ℕ) (at : ℕ) (bytes : List ℕ) (fits : at + length bytes ≤ length d) where
-  -- a part of them
-  pub part-overlay : (k n : ℕ) → k + n ≤ length bytes → take n (drop (at + k) (overlay d at bytes)) ≡ take n (drop k bytes)
-  unfolding overlay
-  part-overlay k n within =
-      let behind : List ℕ = drop (at + length bytes) d in
-      let front : length (take at d) ≡ at = length-take-le at d (omega arith) in
-      let moved : drop (at + k) (take at d ++ (bytes ++ behind)) ≡ drop k (bytes ++ behind) =
-      ap (λ (m : ℕ). drop (m + k) (take at d ++ (bytes ++ behind))) (sym front) ∙ drop-append-add (take at d) (bytes ++ behind) k in
-      rw (append-assoc (take at d) bytes behind, moved, drop-append-le k bytes behind (omega arith))
-      (take-append-le n (drop k bytes) behind (simp length-drop (omega arith)))
-
-  -- what is behind them
-  pub drop-overlay : drop (at + length bytes) (overlay d at bytes) ≡ drop (at + length bytes) d
-  unfolding overlay
-  drop-overlay =
-      let front : length (take at d ++ bytes) ≡ at + length bytes = simp (length-append, length-take) (omega arith) in
-      drop-at (take at d ++ bytes) (drop (at + length bytes) d) (at + length bytes) front
-
-  -- a byte before them, and one behind
-  pub getD-overlay-before : (i : ℕ) → i < at → getD (overlay d at bytes) i 0 ≡ getD d i 0
-  unfolding overlay
-  getD-overlay-before i below =
-      let front : length (take at d) ≡ at = length-take-le at d (omega arith) in
-      rw (append-assoc (take at d) bytes (drop (at + length bytes) d))
-      (List·getD-append (take at d) _ 0 i (omega arith) ∙ getD-take at d i 0 below)
-
-  pub getD-overlay-behind : (i : ℕ) → at + length bytes ≤ i → getD (overlay d at bytes) i 0 ≡ getD d i 0
-  unfolding overlay
-  getD-overlay-behind i above =
-      let front : length (take at d ++ bytes) ≡ at + length bytes = simp (length-append, length-take) (omega arith) in
-      let place : i ≡ length (take at d ++ bytes) + (i - (at + length bytes)) = omega arith in
-      let back : at + length bytes + (i - (at + length bytes)) ≡ i = omega arith in
-      ap (λ (m : ℕ). getD ((take at d ++ bytes) ++ drop (at + length bytes) d) m 0) place
-      ∙ getD-append-add (take at d ++ bytes) (drop (at + length bytes) d) (i - (at + length bytes)) 0
-      ∙ getD-drop (at + length bytes) d (i - (at + length bytes)) 0
-      ∙ ap (λ (m : ℕ). getD d m 0) back

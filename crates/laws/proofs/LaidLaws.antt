@@ -1,12 +1,14 @@
--- Laws of `laid`: bytes written one after the other from the front of a lent output, and a check sum behind them.
+-- Laws of `laid`: bytes written one after the other from the front of a lent output, stored or set, and a check sum behind them.
 use mathlib.Core.Path.{_≡_, refl, sym, ap, _∙_}
 use mathlib.Core.List.{List, [], _∷_, _++_, append-assoc}
 use Prim.Native.Nat.{ℕ, suc, _+_, _<_, _≤_}
 use native.Mathlib.Omega.{arith}
+use native.Mathlib.Nat.{zero-add}
 use native.Mathlib.Numerals.{add-one}
-use lib.ListN.{length, take, drop, set, length-append, length-drop}
+use lib.ListN.{length, take, drop, set, length-append, length-take, length-drop}
 use lib.Seq.{drop-cons, drop-drop, drop-append-add, set-at, take-at}
 use Rattle.rules.specs.declared.kinds.Bus.{Bus}
+use Rattle.rules.specs.Bytes.{overlay}
 use Rattle.rules.specs.CheckSums.{sum, sealed}
 use Rattle.rules.specs.Numbers.{laid}
 
@@ -32,6 +34,24 @@ laid-snoc xs out n b e h =
 -- more bytes behind those laid
 pub laid-over : (xs ys out : List ℕ) → laid (xs ++ ys) (laid xs out) ≡ laid (xs ++ ys) out
 laid-over xs ys out = rw (length-append) (ap (λ (l : List ℕ). (xs ++ ys) ++ l) (drop-laid xs out (length ys)))
+
+-- bytes stored at the front
+pub overlay-first : (xs out : List ℕ) → overlay out 0 xs ≡ laid xs out
+unfolding overlay
+overlay-first xs out = rw zero-add
+
+-- bytes stored behind the first n
+pub overlay-behind : (d bytes : List ℕ) (n : ℕ) → n ≤ length d → overlay d n bytes ≡ laid (take n d ++ bytes) d
+unfolding overlay
+overlay-behind d bytes n h =
+    let long : length (take n d ++ bytes) ≡ n + length bytes = simp (length-append, length-take) (omega arith) in
+    rw long
+
+-- bytes stored behind those laid
+pub overlay-laid : (xs ys out : List ℕ) (n : ℕ) → length xs ≡ n → overlay (laid xs out) n ys ≡ laid (xs ++ ys) out
+unfolding overlay
+overlay-laid xs ys out n e =
+    rw (take-laid xs out n e, ← e, drop-laid xs out (length ys)) (ap (λ (k : ℕ). xs ++ ys ++ drop k out) (sym (length-append xs ys)))
 
 -- the check sum behind those laid
 pub laid-sealed : (bus : Bus) (xs out : List ℕ) (n : ℕ) → length xs ≡ n

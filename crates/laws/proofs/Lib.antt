@@ -3,6 +3,7 @@ pub mod BytesLaws
 pub mod OverlayLaws
 pub mod CommitLaws
 pub mod CheckSumLaws
+pub mod SizeLaws
 pub mod StateLaws
 pub mod LaidLaws
 pub mod UploadLaws

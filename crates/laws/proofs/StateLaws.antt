@@ -17,6 +17,7 @@ use Rattle.rules.specs.Profile.{inRange}
 use Rattle.rules.specs.State.{State, Upload, fresh, used, uploadFormed, replyFormed, wellFormed}
 use Rattle.rules.specs.Numbers.{refusal, flashShort, bufferShort}
 use Rattle.laws.proofs.TestLaws.{&&-true}
+use Rattle.laws.proofs.BytesLaws.{length-zero}
 
 -- used
 
@@ -97,11 +98,6 @@ uploadFormed-facts page S u e =
 pub facts-uploadFormed : (page S : ℕ) (u : Upload) → UploadFacts page S u → uploadFormed page S u ≡ true
 unfolding uploadFormed
 facts-uploadFormed page S u f = rw (le-leb _ _ (f .next-most), le-leb _ _ (f .waiting-most), le-leb _ _ (f .count-most))
-
--- a list of no elements
-pub length-zero : (l : List ℕ) → length l ≡ 0 → l ≡ []
-length-zero [] e = refl
-length-zero (x ∷ xs) e = absurd (omega arith)
 
 -- a last reply is at most M long, and there is none on RS485
 pub record ReplyFacts (bus : Bus) (M : ℕ) (last : List ℕ) : Type 0 where

@@ -17,7 +17,7 @@ use Rattle.rules.specs.Commit.{Progress, pageStart, committed, taken, takenAll,
 use Rattle.laws.proofs.TestLaws.{by-test}
 use Rattle.laws.proofs.BytesLaws.{length-overlay}
 use Rattle.laws.proofs.OverlayLaws.{getD-overlay-outside}
-use Rattle.laws.proofs.CommitLaws.{Fitting, placed, standing, raise, committed-overlay, suc-mod-below, suc-mod-end}
+use Rattle.laws.proofs.CommitLaws.{Fitting, placed, standing, raise, raise-le, committed-overlay, suc-mod-below, suc-mod-end}
 use Rattle.laws.proofs.StateLaws.{ProfileFacts, UploadFacts}
 
 -- the page that a commit finds
@@ -94,10 +94,6 @@ overlay-outside p g f = record {
     beside : (i : ℕ) → Outside p i → (i < placed p (g .upload)) ⊎ (placed p (g .upload) + length (g .upload .waiting) ≤ i)
     beside i (inl below) = inl (omega arith)
     beside i (inr above) = inr (omega (arith, f .next-le, f .held-le))
-
-raise-le : (b : Bool) → raise b ≤ 1
-raise-le true = omega arith
-raise-le false = omega arith
 
 -- a commit uses up at least one waiting byte, which pays for the count
 committed-kept : (p : Profile) (g : Progress) → Fitting p g → 0 < length (g .upload .waiting)

@@ -13,7 +13,7 @@ use borrow.Author.Tests.{ltb-true, ltb-false}
 use Rattle.rules.specs.Bytes.{overlay}
 use Rattle.rules.specs.Profile.{Profile}
 use Rattle.laws.proofs.BytesLaws.{overlay-overlay, length-overlay, overlay-none}
-use Rattle.laws.proofs.CommitLaws.{raise}
+use Rattle.laws.proofs.CommitLaws.{raise, raise-le}
 use Rattle.ledger.specs.Ledger.{Ledger, opened, commits, finalizes}
 use Rattle.ledger.proofs.LedgerLaws.{rest, stands, Roomy, rest-room, commits-overlay}
 use Rattle.ledger.proofs.PageLaws.{div-suc-le, div-suc-end}
@@ -36,10 +36,6 @@ opened-consistent p d = record {
   count-le = le-refl _;
   pages-le = omega arith;
 }
-
-raise-le : (b : Bool) → raise b ≤ 1
-raise-le true = omega arith
-raise-le false = omega arith
 
 -- what a commit asks, so that it balances: something to commit, room for it, and a page or a finalize more than are counted
 pub record Due (p : Profile) (k : Ledger) : Type 0 where

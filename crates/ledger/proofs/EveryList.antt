@@ -10,13 +10,14 @@ use Rattle.rules.specs.State.{State, fresh}
 use Rattle.rules.specs.Commit.{OutsideKept}
 use Rattle.laws.proofs.UploadLaws.{outside-refl, outside-trans}
 use Rattle.laws.proofs.BoardLaws.{received-outside, readOut-flash}
+use Rattle.laws.proofs.OverlayLaws.{getD-overlay-inside, getD-overlay-outside, take-overlay}
 use Rattle.ledger.specs.Ledger.{Ledger, opened, replyCount}
 use Rattle.ledger.specs.Calls.{Call, Frame, Read, Step, calls, ruled, fed, stepped, trace}
 use Rattle.ledger.specs.Claim.{finalizeStep, AcceptedAgain, Finished, Right, Every, Demand3}
 use Rattle.ledger.proofs.Consistency.{Consistent, AfterFinalize}
 use Rattle.ledger.proofs.Kept.{Keeps, fresh-keeps, Closed}
 use Rattle.ledger.proofs.CallStep.{received-enters, readOut-keeps}
-use Rattle.ledger.proofs.Finish.{overlay-inside, overlay-outside, take-overlay, after-finalize-copy}
+use Rattle.ledger.proofs.Finish.{after-finalize-copy}
 use Rattle.ledger.proofs.Repeat.{Has}
 use Rattle.ledger.proofs.Again.{Link, Chained, ends, again-zero}
 
@@ -34,8 +35,8 @@ closed-finished p s flash b c =
     let room = c .after-finalize .room in
     record {
       reply-count = c .count-replied;
-      bytes-stand = λ i h. rw copy (overlay-inside (s .ledger .earlier) (p .offset) (s .ledger .accepted) room i h);
-      others-kept = λ i h. rw copy (overlay-outside (s .ledger .earlier) (p .offset) (s .ledger .accepted) room i h);
+      bytes-stand = λ i h. rw copy (getD-overlay-inside (s .ledger .earlier) (p .offset) (s .ledger .accepted) room i h);
+      others-kept = λ i h. rw copy (getD-overlay-outside (s .ledger .earlier) (p .offset) (s .ledger .accepted) room i h);
       length-kept = rw flash (sym (b .as-long));
     }
 

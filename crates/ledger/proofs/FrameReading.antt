@@ -5,10 +5,10 @@ use mathlib.Core.Bool.{Bool, true, false, cond, _&&_, and-true, and-false}
 use mathlib.Core.List.{List, [], _∷_}
 use Prim.Native.Nat.{ℕ, zero, suc, _+_, _-_, _<_, _≤_}
 use native.Mathlib.Omega.{arith}
-use native.Mathlib.Nat.{div-add-mod', sub-zero, zero-sub, suc-sub-suc}
+use native.Mathlib.Nat.{div-add-mod'}
 use lib.Dec.{eqb}
 use lib.ListN.{length, getD, take, drop, length-take, length-drop}
-use lib.Seq.{getD-drop, getD-take, drop-drop, take-nil}
+use lib.Seq.{getD-drop, getD-take, drop-drop}
 use borrow.Author.Tests.{eqb-true, ne-eqb}
 use Rattle.rules.specs.declared.kinds.Bus.{Bus}
 use Rattle.rules.specs.declared.kinds.Bus.the-variants.{I2c, Rs485}
@@ -16,6 +16,7 @@ use Rattle.rules.specs.Profile.{Profile}
 use Rattle.rules.specs.Bytes.{same}
 use Rattle.rules.specs.CheckSums.{bit, byte, run, sum, sealed, unsealed}
 use Rattle.rules.specs.Frames.{reply, twoBytes, numberAt, commandOf, argumentsOf, isGeneral, resetFrame}
+use Rattle.laws.proofs.BytesLaws.{drop-take}
 use Rattle.laws.proofs.TestLaws.{&&-true}
 use Rattle.ledger.specs.Ledger.{Ledger, opened, writes, finalizes, entered, offsets, writeAddress, writeData, replyCount, resetForm}
 use Rattle.ledger.specs.Ledger.{isFinalize, answeredOk}
@@ -73,12 +74,6 @@ answered-reply bus code f address status results =
     rw (command-is bus f) (ap (λ (n : ℕ). eqb (commandOf bus f) code && eqb n 0) (reply-status bus address status results))
 
 -- a write's arguments
-
-drop-take : (n m : ℕ) (l : List ℕ) → drop n (take m l) ≡ take (m - n) (drop n l)
-drop-take zero m l = rw sub-zero
-drop-take (suc n) zero l = rw zero-sub
-drop-take (suc n) (suc m) [] = sym (take-nil (suc m - suc n))
-drop-take (suc n) (suc m) (x ∷ l) = rw suc-sub-suc (drop-take n m l)
 
 -- what stands at a place of the arguments
 argument-at : (n m i : ℕ) (f : List ℕ) → n + i < m → getD (drop n (take m f)) i 0 ≡ getD f (n + i) 0

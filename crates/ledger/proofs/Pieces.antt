@@ -10,6 +10,7 @@ use lib.Dec.{eqb}
 use lib.ListN.{length}
 use borrow.Author.Tests.{eqb-true, le-ltb}
 use Rattle.rules.specs.Profile.{Profile}
+use Rattle.laws.proofs.BytesLaws.{length-zero}
 use Rattle.laws.proofs.TestLaws.{&&-true}
 use Rattle.ledger.specs.Ledger.{Ledger, opened, commits, joins, joinsAll, writes, finalizes}
 use Rattle.ledger.specs.Claim.{Piece, follow, fromZero, joined}
@@ -43,11 +44,6 @@ pub record Waits (D bs : List ℕ) (ws : List Piece) (k : Ledger) : Type 0 where
   pub from-zero : fromZero ws ≡ true
   pub bytes-are : joined ws ≡ bs
 
--- a list with no elements
-length-none : (l : List ℕ) → length l ≡ 0 → l ≡ []
-length-none [] e = refl
-length-none (x ∷ l) e = absurd (omega arith)
-
 module _ (p : Profile) (D bs : List ℕ) (has : Has p D bs) where
   -- a ledger opened anew, with all bytes to come
   pub opened-repeats : (ys : List ℕ) (k : Ledger) → k .copy ≡ D → ys ≡ bs → Repeats D bs ys (opened (k .copy))
@@ -72,7 +68,7 @@ module _ (p : Profile) (D bs : List ℕ) (has : Has p D bs) where
 
       go : (t : Bool) → eqb (w .address) 0 ≡ t → Follows D bs ws (joinsAll p (cond t (opened (k .copy)) k) (w .bytes))
       go true e =
-          let none : k .accepted ≡ [] = length-none (k .accepted) (sym (eqb-true _ _ (both .0)) ∙ eqb-true _ _ e) in
+          let none : k .accepted ≡ [] = length-zero (k .accepted) (sym (eqb-true _ _ (both .0)) ∙ eqb-true _ _ e) in
           joined-follows (w .bytes) ws (opened (k .copy))
           (opened-repeats (joined (w ∷ ws)) k (i .repeats .copy-is) (rw none at (i .repeats .bytes-are)))
           (rw none at (both .1))

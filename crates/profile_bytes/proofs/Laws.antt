@@ -14,7 +14,8 @@ use Rattle.rules.specs.Profile.{inRange}
 use Rattle.laws.proofs.StateLaws.{inRange-facts}
 use Rattle.profile.specs.declared.Profile.{Profile}
 use Rattle.profile.specs.View.{profileOf}
-use Rattle.fields.specs.Fields.{Bytes, part, fourAt, fourBytes}
+use Rattle.byte_slices.specs.Four.{fourAt, fourBytes}
+use Rattle.fields.specs.Fields.{Bytes, part}
 use Rattle.profile_bytes.specs.ProfileBytes.{profileSize, profileHeld, profileSaid, profileAt, profileBytes, busOf, busByte}
 use Rattle.profile_bytes.specs.BothWays.{ProfileFits}
 use Rattle.laws.proofs.TestLaws.{&&-true}

@@ -7,7 +7,8 @@ use lib.ListN.{length, getD, replicate}
 use Rattle.rules.specs.declared.kinds.Bus.{Bus}
 use Rattle.rules.specs.declared.kinds.Bus.the-variants.{I2c, Rs485}
 use Rattle.profile.specs.declared.Profile.{Profile}
-use Rattle.fields.specs.Fields.{part, fourAt, fourBytes}
+use Rattle.byte_slices.specs.Four.{fourAt, fourBytes}
+use Rattle.fields.specs.Fields.{part}
 
 -- `PROFILE_BYTES`
 abbrev pub profileSize : ℕ

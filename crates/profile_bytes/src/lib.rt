@@ -1,9 +1,9 @@
 // The profile in 36 bytes, as it crosses the C boundary: include/childbus.h has the layout as a table, specs/ as definitions.
 // Bytes that hold no profile read as a profile out of range, so that the board's own test answers them.
-use fields::four_at;
+use byte_slices::four_at;
+use byte_slices::wide;
 use profile::Profile;
 use rules::kinds::Bus;
-use widening::wide;
 ghost use mathlib.Core.Path.{_≡_};
 ghost use Prim.Native.Nat.{_≤_};
 ghost use lib.ListN.{length};
@@ -26,7 +26,7 @@ fn serial_at(b: &[u8]) -> [u8; Profile::LONGEST_SERIAL]
     ensures { λ r. ⌜ r ≡ part (now (b .entry)) 20 16 ⌝ }
 {
     let mut serial = [0u8; Profile::LONGEST_SERIAL];
-    flash::store(&mut serial, 0, &b[20..36]);
+    byte_slices::store(&mut serial, 0, &b[20..36]);
     serial
 }
 

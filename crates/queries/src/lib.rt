@@ -1,10 +1,10 @@
 // The commands that only tell what the board is: version, hardware info, serial, revision. Results go straight into the lent buffer.
+use byte_slices::two_bytes;
 use profile::Profile;
 use response::COMMAND_NOT_SUPPORTED;
 use response::Done;
 use response::OK;
 use response::reply;
-use response::two_bytes;
 use state::State;
 ghost use mathlib.Core.Path.{_≡_};
 ghost use mathlib.Core.List.{List, [], _∷_};

@@ -1,4 +1,6 @@
 // 0x08 read: what stands in flash. Results go straight into the lent buffer.
+use byte_slices::number_at;
+use byte_slices::wide;
 use profile::Profile;
 use response::Done;
 use response::INVALID_ARGUMENTS;
@@ -6,7 +8,6 @@ use response::OK;
 use response::reply;
 use rules::kinds::Bus;
 use state::State;
-use widening::wide;
 ghost use mathlib.Core.Path.{_≡_};
 ghost use Prim.Native.Nat.{_+_, _≤_};
 ghost use lib.ListN.{length};
@@ -21,10 +22,7 @@ fn longest_results(bus: Bus, longest: usize) -> usize
     requires { ⌜ 32 ≤ longest ⌝ }
     ensures { λ r. ⌜ r + shortestReply bus ≡ longest ⌝ }
 {
-    match bus {
-        Bus::I2c => longest - 3,
-        Bus::Rs485 => longest - 5,
-    }
+    longest - frame_sizes::shortest_reply(bus)
 }
 
 // 0x08 read: address in two bytes, length in one. It shows flash, never waiting bytes.
@@ -35,7 +33,7 @@ pub fn read(p: Profile, s: State, args: &[u8], flash: &[u8], out: &mut [u8], at:
         ⌜ commandEffect r (now (flash .entry)) (now (out .exit))
         ≡ ruledCommand (shown (profileOf p) (view s) (now (args .entry)) (now (flash .entry))) (now (out .entry)) at ⌝ }
 {
-    let address = wide(args[0]) * 256 + wide(args[1]);
+    let address = number_at(args, 0);
     let n = wide(args[2]);
     if p.size < address + n {
         return reply(s, INVALID_ARGUMENTS, &[], out, at);

@@ -53,7 +53,7 @@ pub fn read(p: Profile, s: State, address: u8, flash: &[u8], out: &mut [u8]) -> 
     }
     let n = s.last.len;
     let bytes = s.last.bytes;
-    flash::store(out, 0, &bytes[..n]);
+    byte_slices::store(out, 0, &bytes[..n]);
     Answer {
         outcome: Outcome::Reply(n),
         state: s,

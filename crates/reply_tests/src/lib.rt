@@ -1,6 +1,6 @@
 // The tests of the reply decoder: results, length, address.
+use byte_slices::wide;
 use rules::kinds::Bus;
-use widening::wide;
 ghost use mathlib.Core.Path.{_≡_};
 ghost use Prim.Native.Nat.{_+_, _<_};
 ghost use lib.ListN.{length};
@@ -36,9 +36,10 @@ pub fn length_right(bus: Bus, n: usize, long: usize) -> bool
     requires { ⌜ n < 256 ⌝ }
     ensures { λ r. ⌜ r ≡ lengthRight bus n long ⌝ }
 {
+    let whole = n + frame_sizes::shortest_reply(bus);
     match bus {
-        Bus::I2c => n + 3 <= long,
-        Bus::Rs485 => n + 5 == long,
+        Bus::I2c => whole <= long,
+        Bus::Rs485 => whole == long,
     }
 }
 

@@ -1,5 +1,5 @@
 -- Laws of `Makes`: bytes made at the front of a lent output, more bytes behind them, and their check sum.
-use mathlib.Core.Path.{_≡_, refl, sym, ap, _∙_}
+use mathlib.Core.Path.{_≡_, sym, ap, _∙_}
 use mathlib.Core.List.{List, _++_, append-assoc, append-nil}
 use Prim.Native.Nat.{ℕ, _+_, _-_, _≤_}
 use native.Mathlib.Omega.{arith}
@@ -7,18 +7,12 @@ use lib.ListN.{length, take, drop, length-append, length-take, length-drop, drop
 use lib.Seq.{take-length, take-all, drop-drop}
 use borrow.Rule.Slice.PartMut.{midOf, putMid}
 use Rattle.rules.specs.declared.kinds.Bus.{Bus}
-use Rattle.rules.specs.declared.kinds.Bus.the-variants.{I2c, Rs485}
 use Rattle.rules.specs.CheckSums.{sealed}
-use Rattle.rules.specs.Frames.{header, headerLength}
 use Rattle.rules.specs.Numbers.{laid}
 use Rattle.laws.proofs.CheckSumLaws.{length-sealed}
 use Rattle.laws.proofs.LaidLaws.{length-laid, take-laid, laid-over, laid-sealed}
 use Rattle.frame.specs.Seal.{Sealing}
 use Rattle.request_bytes.specs.Making.{Makes}
-
-pub length-header : (bus : Bus) (address : ℕ) → length (header bus address) ≡ headerLength bus
-length-header I2c address = refl
-length-header Rs485 address = refl
 
 -- a list copied behind the first n
 pub makes-part : (n : ℕ) (out more last : List ℕ) (r : ℕ) → n + length more ≤ length out → r ≡ length more

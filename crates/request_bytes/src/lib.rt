@@ -2,6 +2,7 @@
 mod write;
 
 use crate::write::write_command;
+use byte_slices::two_bytes;
 use general_calls::General;
 use general_calls::general_length;
 use general_calls::write_general;
@@ -54,12 +55,12 @@ pub fn write_request(
             write_command(bus, destination, 0x01, &arguments, none, out)
         }
         Request::Write { address } => {
-            let arguments = [(address / 256) as u8, (address % 256) as u8];
+            let arguments = two_bytes(address);
             write_command(bus, destination, 0x06, &arguments, bytes, out)
         }
         Request::Read { address, length } => {
-            let arguments = [(address / 256) as u8, (address % 256) as u8, length as u8];
-            write_command(bus, destination, 0x08, &arguments, none, out)
+            let place = two_bytes(address);
+            write_command(bus, destination, 0x08, &place, &[length as u8], out)
         }
         Request::ResetAddress => write_general(bus, General::ResetAddress, out),
         Request::Reset => write_general(bus, General::Reset, out),

@@ -1,4 +1,5 @@
 // A command's bytes, written into a lent output that has room for them.
+use frame::header::write_header;
 use rules::kinds::Bus;
 ghost use mathlib.Core.List.{[], _∷_, _++_};
 ghost use Prim.Native.Nat.{_+_, _<_, _≤_};
@@ -11,17 +12,9 @@ fn write_front(bus: Bus, destination: usize, code: usize, out: &mut [u8]) -> usi
     requires { ⌜ (destination < 256) × (code < 256) × (headerLength bus + 1 ≤ length (now out)) ⌝ }
     ensures { λ r. ⌜ Makes (header bus destination ++ code ∷ []) (now (out .entry)) (now (out .exit)) r ⌝ }
 {
-    match bus {
-        Bus::I2c => {
-            out[0] = code as u8;
-            1
-        }
-        Bus::Rs485 => {
-            out[0] = destination as u8;
-            out[1] = code as u8;
-            2
-        }
-    }
+    let n = write_header(bus, destination as u8, out);
+    out[n] = code as u8;
+    n + 1
 }
 
 // More bytes behind the first n.

@@ -2,7 +2,7 @@
 use Prim.Native.Nat.{ℕ, _+_, _≤_}
 use native.Mathlib.Omega.{arith}
 use Rattle.rules.specs.Frames.{shortestReply}
-use Rattle.laws.proofs.CommandLaws.{shortestReply-le}
+use Rattle.laws.proofs.SizeLaws.{shortestReply-le}
 use Rattle.state.specs.declared.State.{State}
 use Rattle.profile.specs.declared.Profile.{Profile}
 use Rattle.response.specs.Done.{Serving}

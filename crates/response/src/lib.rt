@@ -1,4 +1,5 @@
 // What a command function hands back: a response and the state, with the results laid straight into the lent buffer.
+use byte_slices::two_bytes;
 use state::State;
 ghost use mathlib.Core.Path.{_≡_};
 ghost use mathlib.Core.List.{List};
@@ -39,19 +40,11 @@ pub fn reply(s: State, status: u8, results: &[u8], out: &mut [u8], at: usize) ->
         ≡ ruledCommand (replying (view s) d status (now (results .entry))) (now (out .entry)) at) ⌝ }
 {
     let count = results.len();
-    flash::store(out, at, results);
+    byte_slices::store(out, at, results);
     Done {
         response: Response::Reply { status, count },
         state: s,
     }
-}
-
-// A number in two bytes, big-endian.
-pub fn two_bytes(n: usize) -> [u8; 2]
-    requires { ⌜ n ≤ 65535 ⌝ }
-    ensures { λ r. ⌜ r ≡ twoBytes n ⌝ }
-{
-    [(n / 256 % 256) as u8, (n % 256) as u8]
 }
 
 // A status and a number of two bytes.

@@ -16,7 +16,7 @@ use Rattle.rules.specs.Frames.{shortestReply, twoBytes, numberAt}
 use Rattle.rules.specs.Responses.{replying, ok}
 use Rattle.rules.specs.Commands.{shown, performed}
 use Rattle.laws.proofs.StateLaws.{ProfileFacts, refusal-unrefused}
-use Rattle.laws.proofs.ImageLaws.{part-overlay}
+use Rattle.laws.proofs.OverlayLaws.{part-overlay}
 use Rattle.roundtrip.specs.Sending.{Sending}
 use Rattle.roundtrip.specs.Exchanges.{Line, Board, Ready, sending, after, exchanges, EachOk, allResults}
 use Rattle.roundtrip.specs.UploadRoundtrip.{total, EachMost, resultsMost, reads}

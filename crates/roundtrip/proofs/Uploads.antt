@@ -14,7 +14,8 @@ use Rattle.rules.specs.Commit.{Progress, takenAll, finalized}
 use Rattle.rules.specs.Frames.{twoBytes}
 use Rattle.rules.specs.Commands.{restarted, finished, performed}
 use Rattle.laws.proofs.StateLaws.{refusal-unrefused}
-use Rattle.laws.proofs.ImageLaws.{begins, finished-flash, getD-overlay-before, getD-overlay-behind}
+use Rattle.laws.proofs.ImageLaws.{begins, finished-flash}
+use Rattle.laws.proofs.OverlayLaws.{getD-overlay-outside}
 use Rattle.roundtrip.specs.Exchanges.{Line, Board, sending, left}
 use Rattle.roundtrip.specs.UploadRoundtrip.{writes, finalize, uploaded, UploadRoundtrip}
 use Rattle.roundtrip.proofs.Exchange.{Exchanged, exchange}
@@ -44,12 +45,6 @@ module _ (l : Line) (d image : List ℕ) (some : 1 ≤ length image) (b : Board)
       refl (λ e. absurd (omega arith))
       (rw standing)
 
--- bytes outside the image
-others : (d : List ℕ) (at : ℕ) (image : List ℕ) → at + length image ≤ length d → (i : ℕ) → (i < at) ⊎ (at + length image ≤ i)
-    → getD (overlay d at image) i 0 ≡ getD d i 0
-others d at image fits i (inl before) = getD-overlay-before d at image fits i before
-others d at image fits i (inr behind) = getD-overlay-behind d at image fits i behind
-
 pub upload-roundtrip : UploadRoundtrip
 upload-roundtrip l b image plan ready some fits planned =
     let unrefused = refusal-unrefused (l .profile) (b .state) (length (b .flash)) (l .buffer) (ready .none-refused) in
@@ -61,7 +56,7 @@ upload-roundtrip l b image plan ready some fits planned =
       finalize-ok = last .answered-ok;
       count-read = rw (last .results-are, last .upload-is) (div-add-mod' _ 256);
       image-stands = stands;
-      others-kept = λ i other. rw stands (others (b .flash) (l .profile .offset) image (omega (arith, unrefused .flash-holds)) i other);
+      others-kept = λ i other. rw stands (getD-overlay-outside (b .flash) (l .profile .offset) image (omega (arith, unrefused .flash-holds)) i other);
       read-back = λ parts p.
           read-all l (b .flash) image fits (unrefused .flash-holds) parts (uploaded l b image plan) 0 (last .ready) stands (p .each)
           (omega (arith, p .whole));

@@ -7,7 +7,7 @@ use lib.Dec.{eqb}
 use lib.ListN.{length, take, drop}
 use Rattle.rules.specs.declared.kinds.Bus.{Bus}
 use Rattle.rules.specs.declared.kinds.Bus.the-variants.{I2c, Rs485}
-use Rattle.rules.specs.Bytes.{same}
+use Rattle.rules.specs.Bytes.{same, lowFirst}
 
 -- which bit falls out of a register, the register without it, the polynomial that the bit adds, and the register at the start
 pub record Algorithm : Type 0 where
@@ -58,7 +58,7 @@ crc16 = leastFirst 0xA001 0xFFFF
 -- the check sum's bytes: CRC-8; CRC-16 low byte first
 unfoldable pub sum : Bus → List ℕ → List ℕ
 sum I2c bs = crc crc8 bs ∷ []
-sum Rs485 bs = crc crc16 bs % 256 ∷ crc crc16 bs / 256 ∷ []
+sum Rs485 bs = lowFirst (crc crc16 bs)
 
 -- how many bytes that is
 abbrev pub sumLength : Bus → ℕ

@@ -2,11 +2,12 @@
 use mathlib.Core.Path.{_≡_}
 use mathlib.Core.Bool.{Bool, cond}
 use mathlib.Core.List.{List, [], _∷_}
-use Prim.Native.Nat.{ℕ, zero, suc, _+_, _*_}
+use Prim.Native.Nat.{ℕ, zero, suc, _+_}
 use lib.Dec.{eqb, leb}
 use lib.ListN.{length, take, drop, getD}
 use Rattle.rules.specs.State as rules
 use Rattle.rules.specs.Numbers.{laid}
+use Rattle.rules.specs.Frames.{numberAt}
 use Rattle.ledger.specs.Ledger.{Ledger, opened}
 use Rattle.ledger.specs.Calls.{Call, Reaction, calls, Step}
 use Rattle.state.specs.declared.State.{State}
@@ -25,7 +26,7 @@ abbrev pub inputBy : ℕ → ℕ → List ℕ → CallInput
 inputBy kind a f = cond (eqb kind 0) (Receive a f) (Read a)
 
 abbrev pub frameLength : List ℕ → ℕ
-frameLength bytes = getD bytes 2 0 * 256 + getD bytes 3 0
+frameLength bytes = numberAt bytes 2
 
 -- a whole record stands at the front
 abbrev pub whole : List ℕ → Bool

@@ -1,4 +1,5 @@
 // A script, calls written in bytes: its records, and what running it leaves (specs/). `replay` runs one.
+use byte_slices::number_at;
 ghost use mathlib.Core.Path.{_≡_};
 ghost use lib.ListN.{length, drop};
 ghost use Prim.Native.Nat.{_+_, _≤_};
@@ -12,7 +13,5 @@ pub fn frame_length(script: &[u8], at: usize) -> usize
     requires { ⌜ at + head ≤ length (now script) ⌝ }
     ensures { λ r. ⌜ r ≡ frameLength (drop at (now (script .entry))) ⌝ }
 {
-    let high = at + 2;
-    let low = at + 3;
-    script[high] as usize * 256 + script[low] as usize
+    number_at(script, at + 2)
 }

@@ -1,10 +1,9 @@
--- A frame taken apart, and results that fit.
-use mathlib.Core.Path.{_≡_, sym, ap, _∙_}
+-- A command's results fit.
+use mathlib.Core.Path.{_≡_}
 use mathlib.Core.List.{List}
-use Prim.Native.Nat.{ℕ, _+_, _-_, _≤_}
+use Prim.Native.Nat.{ℕ, _≤_}
 use native.Mathlib.Omega.{arith}
-use lib.ListN.{length, take, drop}
-use lib.Seq.{take-add, drop-at, length-take-le}
+use lib.ListN.{length}
 use Rattle.rules.specs.Profile.{Profile}
 use Rattle.rules.specs.State as rules
 use Rattle.rules.specs.Responses.{Response, Reply, NoReply}
@@ -14,13 +13,6 @@ use Rattle.laws.proofs.StateLaws.{Unrefused}
 use Rattle.response.specs.declared.Response as response
 use Rattle.response.specs.Done.{counted}
 use Rattle.answer.specs.Answered.{Fits}
-
--- a part of a list, cut behind first or before first
-pub take-drop : (k e : ℕ) (l : List ℕ) → k ≤ e → e ≤ length l → take (e - k) (drop k l) ≡ drop k (take e l)
-take-drop k e l before within =
-    let parts : e ≡ k + (e - k) = omega arith in
-    sym (ap (λ (n : ℕ). drop k (take n l)) parts
-    ∙ rw (take-add k (e - k) l) (drop-at (take k l) (take (e - k) (drop k l)) k (length-take-le k l (omega arith))))
 
 -- a command's results fit the reply buffer and the last reply
 pub fits-counted : (p : Profile) (n : ℕ) (r : Response) → p .longest ≤ 256 → p .longest ≤ n → laws.Fits p r → Fits (p .bus) n (counted r)

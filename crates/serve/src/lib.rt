@@ -1,12 +1,12 @@
 // A well-framed command to this board, as a frame that is known to be one. Which frames are is `verdict`'s; the call is `board::receive`.
 use answer::Answer;
-use answer::destination;
 use answer::respond;
-use frame_sizes::header_length;
-use frame_sizes::sum_length;
+use frame::reply::results_start;
+use frame::request::arguments;
+use frame::request::command;
+use frame::request::destination;
 use profile::Profile;
 use state::State;
-use widening::wide;
 ghost use mathlib.Core.Path.{_≡_};
 ghost use Prim.Native.Nat.{_≤_};
 ghost use lib.ListN.{length};
@@ -39,10 +39,8 @@ pub fn serve(
         (now (out .entry)) ⌝ }
 {
     let bus = p.bus;
-    let head = header_length(bus);
-    let code = wide(frame[head]);
-    let start = head + 1;
-    let end = frame.len() - sum_length(bus);
-    let done = commands::execute(p, s, code, &frame[start..end], flash, out, head + 2);
+    let code = command(bus, frame);
+    let args = arguments(bus, frame);
+    let done = commands::execute(p, s, code, args, flash, out, results_start(bus));
     respond(bus, destination(bus, address, frame), done, out)
 }

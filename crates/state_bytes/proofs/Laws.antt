@@ -19,12 +19,14 @@ use Rattle.laws.proofs.StateLaws.{length-used, inRange-facts, wellFormed-facts}
 use Rattle.state.proofs.Laws.{upload-held, length-last}
 use Rattle.state.specs.declared.State.{State}
 use Rattle.state.specs.View.{largestPage, largestFrame, view}
-use Rattle.fields.specs.Fields.{Bytes, part, fourAt, fourBytes}
+use Rattle.byte_slices.specs.Four.{fourAt, fourBytes}
+use Rattle.fields.specs.Fields.{Bytes, part}
 use Rattle.state_bytes.specs.StateBytes.{waitingFrom, replyFrom, stateSize, stateHeld, stateSaid, noState, stateAt, kindByte, ownByte}
 use Rattle.state_bytes.specs.StateBytes.{runningByte, headBytes, stateBytes, stateWritten}
 use Rattle.state_bytes.specs.BothWays.{StateFits}
 use Rattle.laws.proofs.TestLaws.{&&-true}
-use Rattle.fields.proofs.Laws.{drop-four, fourAt-fourBytes, part-four, part-more, overlay-first, overlay-laid, laid-part}
+use Rattle.fields.proofs.Laws.{drop-four, fourAt-fourBytes, part-four, part-more, laid-part}
+use Rattle.laws.proofs.LaidLaws.{overlay-first, overlay-laid}
 use Rattle.state_bytes.proofs.FlagLaws.{addressOf-bytes, kindByte-addressOf, ownByte-addressOf, running-byte, runningByte-byte}
 use Rattle.state_bytes.proofs.FlagLaws.{kindByte-most, runningByte-most}
 

@@ -9,7 +9,8 @@ use Rattle.rules.specs.declared.kinds.Address.the-variants.{DefaultRange, Own}
 use Rattle.rules.specs.Numbers.{laid}
 use Rattle.state.specs.declared.State.{State}
 use Rattle.state.specs.View.{largestPage, largestFrame}
-use Rattle.fields.specs.Fields.{part, fourAt, fourBytes}
+use Rattle.byte_slices.specs.Four.{fourAt, fourBytes}
+use Rattle.fields.specs.Fields.{part}
 
 -- where the waiting bytes begin, `WAITING_AT`
 abbrev pub waitingFrom : ℕ

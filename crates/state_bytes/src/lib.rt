@@ -1,6 +1,6 @@
 // The state in bytes, as it crosses the C boundary: include/childbus.h has the layout as a table, specs/ as definitions.
 // Bytes that hold no state read as a malformed state, so that the board's own test answers them.
-use fields::four_at;
+use byte_slices::four_at;
 use rules::kinds::Address;
 use state::Last;
 use state::State;
@@ -36,7 +36,7 @@ fn waiting_at(b: &[u8]) -> [u8; State::LARGEST_PAGE]
     ensures { λ r. ⌜ r ≡ part (now (b .entry)) waitingFrom largestPage ⌝ }
 {
     let mut waiting = [0u8; State::LARGEST_PAGE];
-    flash::store(&mut waiting, 0, &b[WAITING_AT..REPLY_AT]);
+    byte_slices::store(&mut waiting, 0, &b[WAITING_AT..REPLY_AT]);
     waiting
 }
 
@@ -45,7 +45,7 @@ fn reply_at(b: &[u8]) -> [u8; State::LARGEST_FRAME]
     ensures { λ r. ⌜ r ≡ part (now (b .entry)) replyFrom largestFrame ⌝ }
 {
     let mut reply = [0u8; State::LARGEST_FRAME];
-    flash::store(&mut reply, 0, &b[REPLY_AT..STATE_BYTES]);
+    byte_slices::store(&mut reply, 0, &b[REPLY_AT..STATE_BYTES]);
     reply
 }
 

@@ -1,5 +1,5 @@
 // Writes the state into its bytes. The layout, and reading it, is `state_bytes`.
-use fields::store_four;
+use byte_slices::store_four;
 use rules::kinds::Address;
 use state::State;
 use state_bytes::REPLY_AT;
@@ -48,7 +48,7 @@ fn store_head(s: State, b: &mut [u8])
         running_byte(s.running),
         0,
     ];
-    flash::store(b, 0, &flags);
+    byte_slices::store(b, 0, &flags);
     store_four(b, 4, s.upload.next);
     store_four(b, 8, s.upload.held);
     store_four(b, 12, s.upload.count);
@@ -64,7 +64,7 @@ pub fn state_to(s: State, b: &mut [u8])
     }
     store_head(s, b);
     let waiting = s.upload.waiting;
-    flash::store(b, WAITING_AT, &waiting);
+    byte_slices::store(b, WAITING_AT, &waiting);
     let bytes = s.last.bytes;
-    flash::store(b, REPLY_AT, &bytes);
+    byte_slices::store(b, REPLY_AT, &bytes);
 }

@@ -1,17 +1,9 @@
 // Both check sums of each byte string on standard input, for comparison with other programs (tests/sums).
 // Input: records of a length, two bytes, high byte first, and so many bytes; at most 400,000 bytes in all.
 // Output: a line for each record, CRC-8 and CRC-16 in hexadecimal. A record that is cut ends the output.
+use byte_slices::number_at;
 use libc::STDIN_FILENO;
 use libc::STDOUT_FILENO;
-ghost use mathlib.Core.Path.{_≡_};
-ghost use Prim.Native.Nat.{_+_, _*_};
-
-// A record's length.
-fn record_length(high: u8, low: u8) -> usize
-    ensures { λ r. ⌜ r ≡ high * 256 + low ⌝ }
-{
-    high as usize * 256 + low as usize
-}
 
 // The line of one byte string.
 fn write_sums(bytes: &[u8]) {
@@ -26,7 +18,7 @@ fn write_all_sums(input: &[u8]) {
     let mut at = 0;
     while 2 <= input.len() - at {
         let start = at + 2;
-        let len = record_length(input[at], input[at + 1]);
+        let len = number_at(input, at);
         if input.len() - start < len {
             return;
         }

@@ -28,7 +28,7 @@ pub fn take(p: Profile, u: Upload, bytes: &[u8], flash: &mut [u8]) -> Upload
     while i < bytes.len() {
         let n = part(page, next, bytes.len() - i);
         let end = i + n;
-        flash::store(&mut waiting, held, &bytes[i..end]);
+        byte_slices::store(&mut waiting, held, &bytes[i..end]);
         i = end;
         next += n;
         held += n;

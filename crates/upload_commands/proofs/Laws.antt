@@ -1,12 +1,9 @@
 -- What write and finalize ask of the upload holds where none of the numbers 2 to 5 applies.
 use mathlib.Core.Path.{_≡_, refl, sym, ap, _∙_}
 use mathlib.Core.Bool.{Bool, true, false, _||_}
-use mathlib.Core.List.{List}
 use Prim.Native.Nat.{ℕ, _+_, _-_, _≤_}
 use native.Mathlib.Omega.{arith}
 use lib.Dec.{eqb, leb}
-use lib.ListN.{length, take, drop, length-drop}
-use lib.Seq.{take-all}
 use borrow.Author.Tests.{eqb-true, leb-true}
 use Rattle.rules.specs.Profile.{inRange}
 use Rattle.rules.specs.State as rules
@@ -21,10 +18,6 @@ use Rattle.profile.specs.declared.Profile.{Profile}
 use Rattle.profile.specs.View.{profileOf}
 use Rattle.response.specs.Done.{Serving}
 use Rattle.commit.specs.Progress.{Ready, Formed}
-
--- all of the data behind a write's address
-pub take-rest : (args : List ℕ) (k : ℕ) → take (length args - k) (drop k args) ≡ drop k args
-take-rest args k = take-all (length args - k) (drop k args) (rw length-drop (omega arith))
 
 module _ (p : Profile) (s : State) (n m at : ℕ) (serving : Serving p s n m at) where
   pub upload-formed : uploadFormed (profileOf p .page) (p .size) (uploadOf (s .upload)) ≡ true

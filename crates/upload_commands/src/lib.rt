@@ -1,12 +1,12 @@
 // The two commands of an upload: write and finalize.
 use acceptance::accepts;
 use acceptance::restart;
+use byte_slices::number_at;
 use profile::Profile;
 use response::Done;
 use response::INVALID_ARGUMENTS;
 use response::OK;
 use state::State;
-use widening::wide;
 ghost use mathlib.Core.Path.{_≡_};
 ghost use Prim.Native.Nat.{_≤_};
 ghost use lib.ListN.{length};
@@ -23,7 +23,7 @@ pub fn write(p: Profile, s: State, args: &[u8], flash: &mut [u8], out: &mut [u8]
         ⌜ commandEffect r (now (flash .exit)) (now (out .exit))
         ≡ ruledCommand (written (profileOf p) (view s) (now (args .entry)) (now (flash .entry))) (now (out .entry)) at ⌝ }
 {
-    let address = wide(args[0]) * 256 + wide(args[1]);
+    let address = number_at(args, 0);
     let upload = s.upload;
     let bytes = &args[2..];
     if !accepts(p.size, upload.next, address, bytes.len()) {

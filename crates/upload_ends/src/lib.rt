@@ -1,7 +1,7 @@
 // How an upload ended, by the lent flash before its first write and at its end, and which pages changed between.
 use byte_parts::first;
 use byte_parts::from;
-use flash::matches;
+use byte_slices::matches;
 use state::State;
 ghost use mathlib.Core.Path.{_≡_};
 ghost use Prim.Native.Nat.{_*_, _<_};

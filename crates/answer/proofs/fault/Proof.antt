@@ -1,5 +1,5 @@
 -- `answer::fault` meets its contract: a response with no results lays nothing over the buffer.
-use Rattle.laws.proofs.CommandLaws.{shortestReply-le}
+use Rattle.laws.proofs.SizeLaws.{shortestReply-le}
 use Rattle.state.specs.View.{view}
 use Rattle.laws.proofs.BytesLaws.{overlay-none}
 use Rattle.rules.specs.Responses.{replying}

@@ -17,24 +17,32 @@ unfolding framing
 returns-2 c =
     rw (ne-eqb _ _ (c .before .before .if1 .left), ← c .before .addressed .ensures, not-true (c .before .addressed .result) (c .if2 .taken))
 
+shortest-request-requires : tie.Need-shortest-request-requires
+shortest-request-requires c κs = search needs
+
 returns-3 : tie.Need-returns-3
 unfolding framing
 returns-3 c =
+    let e = c .before .before in
     rw (
-      ne-eqb _ _ (c .before .before .before .if1 .left),
-      ← c .before .before .addressed .ensures,
-      not-false (c .before .before .addressed .result) (c .before .if2 .left),
+      ne-eqb _ _ (e .before .before .if1 .left),
+      ← e .before .addressed .ensures,
+      not-false (e .before .addressed .result) (e .if2 .left),
+      ← c .before .shortest-request .ensures,
       lt-ltb _ _ (c .if3 .taken),
     )
 
 returns-4 : tie.Need-returns-4
 unfolding framing
 returns-4 c =
+    let l = c .before in
+    let e = l .before .before in
     rw (
-      ne-eqb _ _ (c .before .before .before .before .if1 .left),
-      ← c .before .before .before .addressed .ensures,
-      not-false (c .before .before .before .addressed .result) (c .before .before .if2 .left),
-      le-ltb _ _ (c .before .if3 .left),
+      ne-eqb _ _ (e .before .before .if1 .left),
+      ← e .before .addressed .ensures,
+      not-false (e .before .addressed .result) (e .if2 .left),
+      ← l .before .shortest-request .ensures,
+      le-ltb _ _ (l .if3 .left),
       lt-ltb _ _ (c .if4 .taken),
     )
 
@@ -43,26 +51,34 @@ sum-right-requires c κs = search needs
 
 returns-5 : tie.Need-returns-5
 unfolding framing
-returns-5 c = let e = c .before .before in
+returns-5 c =
+    let m = c .before .before in
+    let l = m .before in
+    let e = l .before .before in
     rw (
-      ne-eqb _ _ (e .before .before .before .before .if1 .left),
-      ← e .before .before .before .addressed .ensures,
-      not-false (e .before .before .before .addressed .result) (e .before .before .if2 .left),
-      le-ltb _ _ (e .before .if3 .left),
-      le-ltb _ _ (e .if4 .left),
+      ne-eqb _ _ (e .before .before .if1 .left),
+      ← e .before .addressed .ensures,
+      not-false (e .before .addressed .result) (e .if2 .left),
+      ← l .before .shortest-request .ensures,
+      le-ltb _ _ (l .if3 .left),
+      le-ltb _ _ (m .if4 .left),
       ← c .before .sum-right .ensures,
       not-true (c .before .sum-right .result) (c .if5 .taken),
     )
 
 returns-6 : tie.Need-returns-6
 unfolding framing
-returns-6 c = let e = c .before .before in
+returns-6 c =
+    let m = c .before .before in
+    let l = m .before in
+    let e = l .before .before in
     rw (
-      ne-eqb _ _ (e .before .before .before .before .if1 .left),
-      ← e .before .before .before .addressed .ensures,
-      not-false (e .before .before .before .addressed .result) (e .before .before .if2 .left),
-      le-ltb _ _ (e .before .if3 .left),
-      le-ltb _ _ (e .if4 .left),
+      ne-eqb _ _ (e .before .before .if1 .left),
+      ← e .before .addressed .ensures,
+      not-false (e .before .addressed .result) (e .if2 .left),
+      ← l .before .shortest-request .ensures,
+      le-ltb _ _ (l .if3 .left),
+      le-ltb _ _ (m .if4 .left),
       ← c .before .sum-right .ensures,
       not-false (c .before .sum-right .result) (c .if5 .left),
     )
@@ -74,6 +90,7 @@ i2c-framing-spec =
     returns
     addressed-requires
     returns-2
+    shortest-request-requires
     returns-3
     returns-4
     sum-right-requires

@@ -5,13 +5,17 @@ use borrow.Author.Needs.{needs}
 use Rattle.framing.proofs.rs485_framing.Statement.{statement}
 use Rattle.framing.proofs.rs485_framing.Tie as tie
 
+shortest-request-requires : tie.Need-shortest-request-requires
+shortest-request-requires c κs = search needs
+
 returns : tie.Need-returns
 unfolding framing
-returns c = rw (lt-ltb _ _ (c .if1 .taken))
+returns c = rw (← c .before .shortest-request .ensures, lt-ltb _ _ (c .if1 .taken))
 
 returns-2 : tie.Need-returns-2
 unfolding framing
-returns-2 c = rw (le-ltb _ _ (c .before .if1 .left), lt-ltb _ _ (c .if2 .taken))
+returns-2 c =
+    rw (← c .before .before .shortest-request .ensures, le-ltb _ _ (c .before .if1 .left), lt-ltb _ _ (c .if2 .taken))
 
 sum-right-requires : tie.Need-sum-right-requires
 sum-right-requires c κs = search needs
@@ -21,6 +25,7 @@ unfolding framing
 returns-3 c =
     let e = c .before .before in
     rw (
+      ← e .before .before .shortest-request .ensures,
       le-ltb _ _ (e .before .if1 .left),
       le-ltb _ _ (e .if2 .left),
       ← c .before .sum-right .ensures,
@@ -36,6 +41,7 @@ returns-4 c =
     let s = c .before .before .before in
     let e = s .before in
     rw (
+      ← e .before .before .shortest-request .ensures,
       le-ltb _ _ (e .before .if1 .left),
       le-ltb _ _ (e .if2 .left),
       ← s .sum-right .ensures,
@@ -53,6 +59,7 @@ returns-5 c =
     let s = g .before .before .before in
     let e = s .before in
     rw (
+      ← e .before .before .shortest-request .ensures,
       le-ltb _ _ (e .before .if1 .left),
       le-ltb _ _ (e .if2 .left),
       ← s .sum-right .ensures,
@@ -69,6 +76,7 @@ returns-6 c =
     let s = g .before .before .before in
     let e = s .before in
     rw (
+      ← e .before .before .shortest-request .ensures,
       le-ltb _ _ (e .before .if1 .left),
       le-ltb _ _ (e .if2 .left),
       ← s .sum-right .ensures,
@@ -82,6 +90,7 @@ pub rs485-framing-spec : {M : Type 1} → statement M
 rs485-framing-spec =
     tie.close
     (tie.spec
+    shortest-request-requires
     returns
     returns-2
     sum-right-requires

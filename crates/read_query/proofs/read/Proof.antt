@@ -1,39 +1,24 @@
 -- `read_query::read` meets its contract: its two tests are `readable`, and the part of flash that it lays over the buffer is the one asked.
 use Rattle.response.proofs.Laws.{few-fit, results-fit}
 use Rattle.rules.specs.Commands.{shown}
-use Rattle.rules.specs.Frames.{shortestReply}
+use Rattle.rules.specs.Frames.{shortestReply, numberAt}
 use borrow.Author.Tests.{le-leb, lt-leb}
 use lib.ListN.{length, getD, take, drop, length-take}
-use Prim.Native.Nat.{_+_, _-_, _*_, _<_, _≤_}
+use Prim.Native.Nat.{_+_, _-_, _<_, _≤_}
 use mathlib.Core.Path.{_≡_, refl, sym, ap, _∙_}
 use native.Mathlib.Omega.{arith}
 use borrow.Author.Needs.{needs}
 use Rattle.read_query.proofs.read.Statement.{statement}
 use Rattle.read_query.proofs.read.Tie as tie
 
+number-at-requires : tie.Need-number-at-requires
+number-at-requires c κs = search needs
+
 shared-slice-read-wide : tie.Need-shared-slice-read-wide
 shared-slice-read-wide c = search needs
 
 wide-requires : tie.Need-wide-requires
 wide-requires c κs = search needs
-
-mul-address : tie.Need-mul-address
-mul-address c = search needs
-
-shared-slice-read-wide-2 : tie.Need-shared-slice-read-wide-2
-shared-slice-read-wide-2 c = search needs
-
-wide-requires-2 : tie.Need-wide-requires-2
-wide-requires-2 c κs = search needs
-
-add-address : tie.Need-add-address
-add-address c = search needs
-
-shared-slice-read-wide-3 : tie.Need-shared-slice-read-wide-3
-shared-slice-read-wide-3 c = search needs
-
-wide-requires-3 : tie.Need-wide-requires-3
-wide-requires-3 c κs = search needs
 
 add-if1 : tie.Need-add-if1
 add-if1 c = search needs
@@ -43,7 +28,7 @@ slice-aggregate-reply c = search needs
 
 reply-requires : tie.Need-reply-requires
 reply-requires c κs =
-    let st = c .before .before .before .before .before .before .before .before .before .before .before .before .before in
+    let st = c .before .before .before .before .before .before .before .before .before .before in
     few-fit (st .args .p) (st .args .s) _ _ (st .args .at) 0 (st .pre .0) (omega arith)
 
 same-length : tie.Need-same-length
@@ -53,13 +38,12 @@ returns : tie.Need-returns
 unfolding shown
 returns c =
     let t = c .before .before .before .before .before in
-    let w3 = t .before .before in
-    let w2 = w3 .before .before in
-    let w1 = w2 .before .before in
-    let st = w1 .before .before .before .before .before in
+    let w = t .before .before in
+    let a = w .before .before in
+    let st = a .before .before .before .before in
     let args = st .args .args .now in
-    let over : st .args .p .size < getD args 0 0 * 256 + getD args 1 0 + getD args 2 0 =
-    omega (arith, t .if1 .taken, w1 .wide .ensures .0, w2 .wide2 .ensures .0, w3 .wide3 .ensures .0) in
+    let over : st .args .p .size < numberAt args 0 + getD args 2 0 =
+    omega (arith, t .if1 .taken, a .number-at .ensures .0, w .wide .ensures .0) in
     rw (lt-leb _ _ over) (c .before .before .reply .ensures (st .args .flash .now))
 
 longest-results-requires : tie.Need-longest-results-requires
@@ -79,15 +63,14 @@ unfolding shown
 returns-2 c =
     let t = c .before .before .before .before .before in
     let e = t .before .before in
-    let w3 = e .before .before in
-    let w2 = w3 .before .before in
-    let w1 = w2 .before .before in
-    let st = w1 .before .before .before .before .before in
+    let w = e .before .before in
+    let a = w .before .before in
+    let st = a .before .before .before .before in
     let args = st .args .args .now in
-    let within : getD args 0 0 * 256 + getD args 1 0 + getD args 2 0 ≤ st .args .p .size =
-    omega (arith, e .if1 .left, w1 .wide .ensures .0, w2 .wide2 .ensures .0, w3 .wide3 .ensures .0) in
+    let within : numberAt args 0 + getD args 2 0 ≤ st .args .p .size =
+    omega (arith, e .if1 .left, a .number-at .ensures .0, w .wide .ensures .0) in
     let over : st .args .p .longest - shortestReply (st .args .p .bus) < getD args 2 0 =
-    omega (arith, t .if2 .taken, t .before .longest-results .ensures, w3 .wide3 .ensures .0) in
+    omega (arith, t .if2 .taken, t .before .longest-results .ensures, w .wide .ensures .0) in
     rw (le-leb _ _ within, lt-leb _ _ over) (c .before .before .reply2 .ensures (st .args .flash .now))
 
 add-start : tie.Need-add-start
@@ -116,32 +99,26 @@ unfolding shown
 returns-3 c =
     let f = c .before .before .before .before .before .before in
     let e = f .before .before in
-    let w3 = e .before .before in
-    let w2 = w3 .before .before in
-    let w1 = w2 .before .before in
-    let st = w1 .before .before .before .before .before in
+    let w = e .before .before in
+    let a = w .before .before in
+    let st = a .before .before .before .before in
     let args = st .args .args .now in
-    let within : getD args 0 0 * 256 + getD args 1 0 + getD args 2 0 ≤ st .args .p .size =
-    omega (arith, e .if1 .left, w1 .wide .ensures .0, w2 .wide2 .ensures .0, w3 .wide3 .ensures .0) in
+    let within : numberAt args 0 + getD args 2 0 ≤ st .args .p .size =
+    omega (arith, e .if1 .left, a .number-at .ensures .0, w .wide .ensures .0) in
     let held : getD args 2 0 ≤ st .args .p .longest - shortestReply (st .args .p .bus) =
-    omega (arith, f .if2 .left, f .before .longest-results .ensures, w3 .wide3 .ensures .0) in
-    let start = st .args .p .offset + (w1 .wide .result * 256 + w2 .wide2 .result) in
-    let long : start + w3 .wide3 .result - start ≡ w3 .wide3 .result = omega arith in
-    rw (le-leb _ _ within, le-leb _ _ held, ← w1 .wide .ensures .0, ← w2 .wide2 .ensures .0, ← w3 .wide3 .ensures .0)
+    omega (arith, f .if2 .left, f .before .longest-results .ensures, w .wide .ensures .0) in
+    let start = st .args .p .offset + a .number-at .result in
+    let long : start + w .wide .result - start ≡ w .wide .result = omega arith in
+    rw (le-leb _ _ within, le-leb _ _ held, ← a .number-at .ensures .0, ← w .wide .ensures .0)
     (rw long at (c .before .before .reply3 .ensures (st .args .flash .now)))
 
 pub read-spec : {M : Type 1} → statement M
 read-spec =
     tie.close
     (tie.spec
+    number-at-requires
     shared-slice-read-wide
     wide-requires
-    mul-address
-    shared-slice-read-wide-2
-    wide-requires-2
-    add-address
-    shared-slice-read-wide-3
-    wide-requires-3
     add-if1
     slice-aggregate-reply
     reply-requires

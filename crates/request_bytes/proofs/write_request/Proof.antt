@@ -1,5 +1,7 @@
 -- `request_bytes::write_request` meets its contract: each arm writes the line of the definition for its request.
+use mathlib.Core.Path.{_≡_}
 use native.Mathlib.Omega.{arith}
+use lib.ListN.{length}
 use borrow.Author.Needs.{needs}
 use Rattle.rules.specs.Master.{requestBytes}
 use Rattle.request_bytes.proofs.write_request.Statement.{statement}
@@ -44,49 +46,43 @@ write-command-requires-2 c κs =
 enum-known-request-3 : tie.Need-enum-known-request-3
 enum-known-request-3 c = search needs
 
-cast-t27 : tie.Need-cast-t27
-cast-t27 c =
-    let start = c .before .before .before .before .before .before in
-    let pre = rw (c .before .request3 .given .1) at (start .pre) in
+two-bytes-requires : tie.Need-two-bytes-requires
+two-bytes-requires c κs =
+    let pre = rw (c .before .request3 .given .1) at (c .before .before .before .before .before .before .pre) in
     omega (arith, pre .1)
-
-cast-t29 : tie.Need-cast-t29
-cast-t29 c = search needs
 
 slice-aggregate-write-command-2 : tie.Need-slice-aggregate-write-command-2
 slice-aggregate-write-command-2 c = search needs
 
 write-command-requires-3 : tie.Need-write-command-requires-3
 write-command-requires-3 c κs =
-    let start = c .before .before .before .before .before .before .before .before in
-    let pre = rw (c .before .before .before .request3 .given .1) at (start .pre) in
+    let two : length (c .before .before .two-bytes .result) ≡ 2 = search needs in
+    let pre = rw (c .before .before .before .before .request3 .given .1) at (c .before .before .before .before .before .before .before .before .before .pre) in
     (pre .0 .0, omega arith, omega (arith, pre .2))
 
 enum-known-request-4 : tie.Need-enum-known-request-4
 enum-known-request-4 c = search needs
 
-cast-t35 : tie.Need-cast-t35
-cast-t35 c =
-    let start = c .before .before .before .before .before .before in
-    let pre = rw (c .before .request4 .given .1) at (start .pre) in
+two-bytes-requires-2 : tie.Need-two-bytes-requires-2
+two-bytes-requires-2 c κs =
+    let pre = rw (c .before .request4 .given .1) at (c .before .before .before .before .before .before .pre) in
     omega (arith, pre .1 .0)
-
-cast-t37 : tie.Need-cast-t37
-cast-t37 c = search needs
-
-cast-t38 : tie.Need-cast-t38
-cast-t38 c =
-    let start = c .before .before .before .before .before .before in
-    let pre = rw (c .before .request4 .given .1) at (start .pre) in
-    omega (arith, pre .1 .1)
 
 slice-aggregate-write-command-3 : tie.Need-slice-aggregate-write-command-3
 slice-aggregate-write-command-3 c = search needs
 
+cast-t35 : tie.Need-cast-t35
+cast-t35 c =
+    let pre = rw (c .before .before .before .request4 .given .1) at (c .before .before .before .before .before .before .before .before .pre) in
+    omega (arith, pre .1 .1)
+
+slice-aggregate-write-command-4 : tie.Need-slice-aggregate-write-command-4
+slice-aggregate-write-command-4 c = search needs
+
 write-command-requires-4 : tie.Need-write-command-requires-4
 write-command-requires-4 c κs =
-    let start = c .before .before .before .before .before .before .before .before in
-    let pre = rw (c .before .before .before .request4 .given .1) at (start .pre) in
+    let two : length (c .before .before .before .two-bytes2 .result) ≡ 2 = search needs in
+    let pre = rw (c .before .before .before .before .before .request4 .given .1) at (c .before .before .before .before .before .before .before .before .before .before .pre) in
     (pre .0 .0, omega arith, omega (arith, pre .2))
 
 enum-told : tie.Need-enum-told
@@ -132,7 +128,8 @@ returns-3 : tie.Need-returns-3
 unfolding requestBytes
 returns-3 c =
     let written = c .before .before in
-    rw (written .before .before .before .before .request3 .given .1) (written .write-command3 .ensures)
+    rw (written .before .before .before .before .before .request3 .given .1)
+    (rw (written .before .before .before .two-bytes .ensures) at (written .write-command3 .ensures))
 
 same-length-4 : tie.Need-same-length-4
 same-length-4 c = search needs
@@ -141,7 +138,8 @@ returns-4 : tie.Need-returns-4
 unfolding requestBytes
 returns-4 c =
     let written = c .before .before in
-    rw (written .before .before .before .before .request4 .given .1) (written .write-command4 .ensures)
+    rw (written .before .before .before .before .before .before .request4 .given .1)
+    (rw (written .before .before .before .before .two-bytes2 .ensures) at (written .write-command4 .ensures))
 
 same-length-5 : tie.Need-same-length-5
 same-length-5 c = search needs
@@ -176,15 +174,14 @@ write-request-spec =
     slice-aggregate-write-command
     write-command-requires-2
     enum-known-request-3
-    cast-t27
-    cast-t29
+    two-bytes-requires
     slice-aggregate-write-command-2
     write-command-requires-3
     enum-known-request-4
-    cast-t35
-    cast-t37
-    cast-t38
+    two-bytes-requires-2
     slice-aggregate-write-command-3
+    cast-t35
+    slice-aggregate-write-command-4
     write-command-requires-4
     enum-told
     write-general-requires

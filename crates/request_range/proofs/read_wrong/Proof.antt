@@ -2,7 +2,7 @@
 use native.Mathlib.Omega.{arith}
 use borrow.Author.Needs.{needs}
 use borrow.Author.Tests.{lt-ltb, le-ltb}
-use Rattle.laws.proofs.CommandLaws.{shortestReply-le}
+use Rattle.laws.proofs.SizeLaws.{shortestReply-le}
 use Rattle.request_range.proofs.read_wrong.Statement.{statement}
 use Rattle.request_range.proofs.read_wrong.Tie as tie
 

@@ -20,17 +20,8 @@ sub-loop c = search needs
 add-start : tie.Need-add-start Inv-loop μ-loop
 add-start c = search needs
 
-shared-slice-read-record-length : tie.Need-shared-slice-read-record-length Inv-loop μ-loop
-shared-slice-read-record-length c = search needs
-
-add-record-length : tie.Need-add-record-length Inv-loop μ-loop
-add-record-length c = search needs
-
-shared-slice-read-record-length-2 : tie.Need-shared-slice-read-record-length-2 Inv-loop μ-loop
-shared-slice-read-record-length-2 c = search needs
-
-record-length-requires : tie.Need-record-length-requires Inv-loop μ-loop
-record-length-requires c κs = search needs
+number-at-requires : tie.Need-number-at-requires Inv-loop μ-loop
+number-at-requires c κs = search needs
 
 sub-if1 : tie.Need-sub-if1 Inv-loop μ-loop
 sub-if1 c = search needs
@@ -71,10 +62,7 @@ write-all-sums-spec =
     loop-holds
     sub-loop
     add-start
-    shared-slice-read-record-length
-    add-record-length
-    shared-slice-read-record-length-2
-    record-length-requires
+    number-at-requires
     sub-if1
     returns
     add-at

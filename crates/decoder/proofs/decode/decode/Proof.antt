@@ -1,10 +1,9 @@
 -- `decoder::decode::decode` meets its contract: each return follows the definition past the tests that were passed.
-use mathlib.Core.Path.{_≡_, sym, _∙_}
-use Prim.Native.Nat.{_+_}
+use mathlib.Core.Path.{sym, _∙_}
 use native.Mathlib.Omega.{arith}
 use borrow.Author.Needs.{needs}
 use borrow.Author.Tests.{lt-ltb, le-ltb, not-false}
-use Rattle.rules.specs.Master.{decoded, countOf}
+use Rattle.rules.specs.Master.{decoded}
 use Rattle.decoder.proofs.DecodeLaws.{decodes, lengthRight-le}
 use Rattle.decoder.proofs.decode.decode.Statement.{statement}
 use Rattle.decoder.proofs.decode.decode.Tie as tie
@@ -30,29 +29,17 @@ returns-2 c =
     (rw (← c .before .shortest-reply .ensures, ← known .before .served .ensures, known .if1 .left, lt-ltb _ _ (c .if2 .taken)))
     (omega arith)
 
-header-length-requires : tie.Need-header-length-requires
-header-length-requires c κs = search needs
-
-add-wide : tie.Need-add-wide
-add-wide c = search needs
-
-shared-slice-read-wide : tie.Need-shared-slice-read-wide
-shared-slice-read-wide c = search needs
-
-wide-requires : tie.Need-wide-requires
-wide-requires c κs = search needs
+count-requires : tie.Need-count-requires
+count-requires c κs = search needs
 
 length-right-requires : tie.Need-length-right-requires
-length-right-requires c κs =
-    let header = c .before .before .header-length .result in
-    omega (arith, c .before .shared-slice-known2 .given (header + 1))
+length-right-requires c κs = search needs
 
 returns-3 : tie.Need-returns-3
 unfolding decoded
 returns-3 c =
     let count = c .before .before in
-    let header = count .before .before in
-    let long = header .before in
+    let long = count .before in
     let known = long .before .before in
     decodes _ _ (known .before .before .before .args .reply .now)
     (rw (
@@ -60,8 +47,7 @@ returns-3 c =
       ← known .before .served .ensures,
       known .if1 .left,
       le-ltb _ _ (long .if2 .left),
-      ← header .header-length .ensures,
-      ← count .wide .ensures .0,
+      ← count .count .ensures .0,
       ← c .before .length-right .ensures,
       c .if3 .taken,
     ))
@@ -70,26 +56,21 @@ returns-3 c =
 open-reply-requires : tie.Need-open-reply-requires
 open-reply-requires c κs =
     let count = c .before .before in
-    let header = count .before .before in
-    let start = header .before .before .before .before .before .before in
-    let is-count : count .wide .result ≡ countOf (start .args .bus) (start .args .reply .now) =
-    rw (← header .header-length .ensures) (count .wide .ensures .0) in
-    (is-count, lengthRight-le (start .args .bus) _ _ (sym (c .before .length-right .ensures) ∙ not-false _ (c .if3 .left)))
+    let start = count .before .before .before .before .before .before in
+    (count .count .ensures .0, lengthRight-le (start .args .bus) _ _ (sym (c .before .length-right .ensures) ∙ not-false _ (c .if3 .left)))
 
 returns-4 : tie.Need-returns-4
 unfolding decoded
 returns-4 c =
     let fits = c .before in
     let count = fits .before .before in
-    let header = count .before .before in
-    let long = header .before in
+    let long = count .before in
     let known = long .before .before in
     rw (
       ← known .before .served .ensures,
       known .if1 .left,
       le-ltb _ _ (rw (long .before .shortest-reply .ensures) at (long .if2 .left)),
-      ← header .header-length .ensures,
-      ← count .wide .ensures .0,
+      ← count .count .ensures .0,
       ← fits .before .length-right .ensures,
       fits .if3 .left,
     )
@@ -103,10 +84,7 @@ decode-spec =
     returns
     shortest-reply-requires
     returns-2
-    header-length-requires
-    add-wide
-    shared-slice-read-wide
-    wide-requires
+    count-requires
     length-right-requires
     returns-3
     open-reply-requires

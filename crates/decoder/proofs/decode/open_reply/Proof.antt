@@ -61,17 +61,14 @@ returns-2 c =
     ))
     (omega arith)
 
-header-length-requires : tie.Need-header-length-requires
-header-length-requires c κs = search needs
-
-shared-slice-read-status : tie.Need-shared-slice-read-status
-shared-slice-read-status c = search needs
+status-requires : tie.Need-status-requires
+status-requires c κs = search needs
 
 returns-3 : tie.Need-returns-3
 unfolding opened
 returns-3 c =
-    let header = c .before .before in
-    let ours = header .before in
+    let told = c .before in
+    let ours = told .before in
     let passed = ours .before .before in
     let summed = passed .before in
     let whole = summed .before .before in
@@ -84,7 +81,7 @@ returns-3 c =
       passed .if1 .left,
       ← ours .before .from-other .ensures,
       ours .if2 .left,
-      ← header .header-length .ensures,
+      ← told .status .ensures,
       lt-ltb _ _ (c .if3 .taken),
     ))
     (omega arith)
@@ -96,8 +93,8 @@ returns-4 : tie.Need-returns-4
 unfolding opened
 returns-4 c =
     let known = c .before .before in
-    let header = known .before .before in
-    let ours = header .before in
+    let told = known .before in
+    let ours = told .before in
     let passed = ours .before .before in
     let summed = passed .before in
     let whole = summed .before .before in
@@ -110,22 +107,23 @@ returns-4 c =
       passed .if1 .left,
       ← ours .before .from-other .ensures,
       ours .if2 .left,
-      ← header .header-length .ensures,
+      ← told .status .ensures,
       le-ltb _ _ (known .if3 .left),
       ← c .before .results-missing .ensures,
       c .if4 .taken,
     ))
     (omega arith)
 
-add-t10 : tie.Need-add-t10
-add-t10 c = search needs
+results-start-requires : tie.Need-results-start-requires
+results-start-requires c κs = search needs
 
 returns-5 : tie.Need-returns-5
 unfolding opened
 returns-5 c =
-    let known = c .before .before in
-    let header = known .before .before in
-    let ours = header .before in
+    let found = c .before in
+    let known = found .before .before in
+    let told = known .before in
+    let ours = told .before in
     let passed = ours .before .before in
     let summed = passed .before in
     let whole = summed .before .before in
@@ -138,12 +136,13 @@ returns-5 c =
       passed .if1 .left,
       ← ours .before .from-other .ensures,
       ours .if2 .left,
-      ← header .header-length .ensures,
+      ← told .status .ensures,
       le-ltb _ _ (known .if3 .left),
-      ← c .before .results-missing .ensures,
-      c .if4 .left,
+      ← found .before .results-missing .ensures,
+      found .if4 .left,
+      ← c .results-start .ensures,
     ))
-    (omega (arith, header .header-length .ensures))
+    (omega (arith, c .results-start .ensures))
 
 pub open-reply-spec : {M : Type 1} → statement M
 open-reply-spec =
@@ -156,10 +155,9 @@ open-reply-spec =
     returns
     from-other-requires
     returns-2
-    header-length-requires
-    shared-slice-read-status
+    status-requires
     returns-3
     results-missing-requires
     returns-4
-    add-t10
+    results-start-requires
     returns-5)

@@ -5,7 +5,8 @@ use native.Mathlib.Omega.{arith}
 use lib.ListN.{length-append}
 use borrow.Author.Needs.{needs}
 use Rattle.rules.specs.Frames.{request}
-use Rattle.request_bytes.proofs.WriteLaws.{length-header, makes-room, makes-more, makes-sealed}
+use Rattle.laws.proofs.SizeLaws.{length-header}
+use Rattle.request_bytes.proofs.WriteLaws.{makes-room, makes-more, makes-sealed}
 use Rattle.request_bytes.proofs.write.write_command.Statement.{statement}
 use Rattle.request_bytes.proofs.write.write_command.Tie as tie
 
