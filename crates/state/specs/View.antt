@@ -45,3 +45,12 @@ zeroed = record {
 pub record Fresh (s : State) : Type 0 where
   pub viewed : view s ≡ rules.fresh
   pub all : s ≡ zeroed
+
+-- a state of the code with another number of waiting bytes, the other fields kept
+abbrev pub withHeld : State → ℕ → State
+withHeld s n = record {
+  address = s .address;
+  running = s .running;
+  upload = record { next = s .upload .next; held = n; count = s .upload .count; waiting = s .upload .waiting };
+  last = s .last;
+}

@@ -1,14 +1,14 @@
 -- The state in bytes: which bytes hold one, which state they say, and the bytes of a state.
-use mathlib.Core.Bool.{Bool, false, cond, _&&_}
+use mathlib.Core.Bool.{Bool, cond, _&&_}
 use mathlib.Core.List.{List, [], _∷_, _++_}
 use Prim.Native.Nat.{ℕ, _+_}
 use lib.Dec.{eqb, leb}
-use lib.ListN.{length, getD, replicate}
+use lib.ListN.{length, getD}
 use Rattle.rules.specs.declared.kinds.Address.{Address}
 use Rattle.rules.specs.declared.kinds.Address.the-variants.{DefaultRange, Own}
 use Rattle.rules.specs.Numbers.{laid}
 use Rattle.state.specs.declared.State.{State}
-use Rattle.state.specs.View.{largestPage, largestFrame}
+use Rattle.state.specs.View.{largestPage, largestFrame, zeroed, withHeld}
 use Rattle.byte_slices.specs.Four.{fourAt, fourBytes}
 use Rattle.fields.specs.Fields.{part}
 
@@ -55,12 +55,7 @@ stateSaid b = record {
 
 -- what bytes that hold no state read as: a byte waits before any was accepted, which is malformed
 abbrev pub noState : State
-noState = record {
-  address = DefaultRange;
-  running = false;
-  upload = record { next = 0; held = 1; count = 0; waiting = replicate largestPage 0 };
-  last = record { len = 0; bytes = replicate largestFrame 0 };
-}
+noState = withHeld zeroed 1
 
 -- any bytes read as a state
 unfoldable pub stateAt : List ℕ → State

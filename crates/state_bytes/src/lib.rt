@@ -76,20 +76,9 @@ fn state_said(b: &[u8]) -> State
 fn no_state() -> State
     ensures { λ r. ⌜ r ≡ noState ⌝ }
 {
-    State {
-        address: Address::DefaultRange,
-        running: false,
-        upload: Upload {
-            next: 0,
-            held: 1,
-            count: 0,
-            waiting: [0u8; State::LARGEST_PAGE],
-        },
-        last: Last {
-            len: 0,
-            bytes: [0u8; State::LARGEST_FRAME],
-        },
-    }
+    let mut s = State::fresh();
+    s.upload.held = 1;
+    s
 }
 
 // The state that bytes say.
