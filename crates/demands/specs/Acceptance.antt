@@ -37,7 +37,8 @@ pub record Unchanged (k : Known) (s : Step) : Type 0 where
 pub record FrameRight (p : Profile) (k : Known) (s : Step) (a : ℕ) (f : List ℕ) (n : ℕ) : Type 0 where
   -- every well-framed write to this board in order and in range is accepted
   pub accepts :
-      p .longest ≤ n → wellFramed p (k .past) a f ≡ true → commandOf (p .bus) f ≡ 0x06 → inOrder p (k .past) f ≡ true → Answers p s a f ok []
+      p .longest ≤ n → wellFramed p (k .past) a f ≡ true → commandOf (p .bus) f ≡ 0x06 → inOrder p (k .past) f ≡ true
+      → Answers p s a f ok []
   -- its other well-framed ones are refused by name, and leave the upload as it was
   pub refuses :
       p .longest ≤ n → wellFramed p (k .past) a f ≡ true → commandOf (p .bus) f ≡ 0x06 → inOrder p (k .past) f ≡ false

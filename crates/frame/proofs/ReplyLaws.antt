@@ -59,7 +59,8 @@ closed bus address status count out mid after room m a =
 -- header, then status and count, then the check sum, each stored behind what is there
 pub closing : (bus : Bus) (address status count h : ℕ) (out headed mid after : List ℕ) (r : ℕ) → count ≤ 255
     → count + shortestReply bus ≤ length out → h ≡ headerLength bus → headed ≡ laid (header bus address) out
-    → mid ≡ overlay headed h (status ∷ count % 256 ∷ []) → Sealing bus (h + 2 + count) mid after r → Closing bus address status count out after r
+    → mid ≡ overlay headed h (status ∷ count % 256 ∷ []) → Sealing bus (h + 2 + count) mid after r
+    → Closing bus address status count out after r
 closing bus address status count h out headed mid after r small room size lay store sealing =
     let byte : count % 256 ≡ count = omega arith in
     let front : mid ≡ laid (head bus address status count) out =

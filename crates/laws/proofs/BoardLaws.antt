@@ -165,7 +165,9 @@ module _ (p : Profile) (s : State) (a : ℕ) (f d : List ℕ) where
 
   -- so a number of 2 or above leaves state and flash untouched
   pub handled-untouched : (v : Verdict) → 2 ≤ handled p s a f d v .number → handled p s a f d v ≡ refused (handled p s a f d v .number) s d
-  handled-untouched v h = let same = ignored-untouched v (numbered-ignored v h) in same ∙ ap (λ (n : ℕ). refused n s d) (ap (λ (c : Called). c .number) (sym same))
+  handled-untouched v h =
+      let same = ignored-untouched v (numbered-ignored v h) in
+      same ∙ ap (λ (c : Called). refused (c .number) s d) (sym same)
 
 -- a refusal is 2 or above
 pub refusal-least : (p : Profile) (s : State) (n m : ℕ) → eqb (refusal p s n m) 0 ≡ false → 2 ≤ refusal p s n m

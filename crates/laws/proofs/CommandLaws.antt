@@ -127,7 +127,8 @@ module _ (p : Profile) (facts : ProfileFacts p) (s : State) (formed : UploadFact
   setAddress-formed-result args =
       setAddress-cases p s args d (FormedResult p d)
       (record {
-        taken = λ e. record { formed = formed; outside = outside-refl p d; fits = omega (arith, shortestReply-le (p .bus), facts .longest-least) };
+        taken = λ e.
+            record { formed = formed; outside = outside-refl p d; fits = omega (arith, shortestReply-le (p .bus), facts .longest-least) };
         foreign = λ e. record { formed = formed; outside = outside-refl p d; fits = tt };
       })
 

@@ -192,4 +192,6 @@ module _ (p : Profile) (facts : ProfileFacts p) (d : List ℕ) (room : p .offset
       let none : g .upload .waiting ≡ [] = length-zero (g .upload .waiting) (eqb-true _ _ e) in
       let there : stood p d image (length image / p .page) ≡ true = sym found ∙ rw none in
       rw (e, there, add-zero) counted)
-      (λ e. rw (e, committed-overlay p g (formed-fitting p facts g (omega (arith, kept .outside .length-kept)) (kept .formed)), found, counted))
+      (λ e.
+      let fitting = formed-fitting p facts g (omega (arith, kept .outside .length-kept)) (kept .formed) in
+      rw (e, committed-overlay p g fitting, found, counted))

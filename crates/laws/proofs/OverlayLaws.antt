@@ -5,7 +5,8 @@ use mathlib.Core.List.{List, _++_, append-assoc}
 use Prim.Native.Nat.{ℕ, _+_, _-_, _<_, _≤_}
 use native.Mathlib.Omega.{arith}
 use lib.ListN.{length, getD, take, drop, length-append, length-drop, List·getD-append}
-use lib.Seq.{take-at, drop-at, drop-drop, length-take-le, take-append-le, drop-append-le, drop-append-add, getD-append-add, getD-take, getD-drop}
+use lib.Seq.{take-at, drop-at, drop-drop, length-take-le, take-append-le, drop-append-le, drop-append-add}
+use lib.Seq.{getD-append-add, getD-take, getD-drop}
 use Rattle.rules.specs.Bytes.{overlay}
 
 module _ (d : List ℕ) (at : ℕ) (bytes : List ℕ) (fits : at + length bytes ≤ length d) where

@@ -1,6 +1,6 @@
--- The same upload again counts 0. After the first finalize the ledger's copy D has the bytes; until the first accepted write nothing is left
--- to commit, so further finalizes do nothing; from that write on the accepted bytes are the first of those bytes (`Pieces`), and nothing
--- counts. A reset begins anew, or no later piece is accepted: an accepted write is at 0 or where the accepted bytes end.
+-- The same upload again counts 0. After the first finalize the ledger's copy D has the bytes; until the first accepted write nothing is
+-- left to commit, so further finalizes do nothing; from that write on the accepted bytes are the first of those bytes (`Pieces`), and
+-- nothing counts. A reset begins anew, or no later piece is accepted: an accepted write is at 0 or where the accepted bytes end.
 use mathlib.Core.Path.{_≡_, refl, ap}
 use mathlib.Core.Logic.{_⊎_, inl, inr}
 use mathlib.Core.Bool.{Bool, true, false, cond, and-false, false≢true}

@@ -17,7 +17,8 @@ use Rattle.rules.specs.State.{State, fresh, withAddress, withLast}
 use Rattle.rules.specs.Frames.{commandOf}
 use Rattle.rules.specs.Responses.{Reply, NoReply}
 use Rattle.rules.specs.Board.{Called, nothing, withReply, replied, refused}
-use Rattle.ledger.specs.Ledger.{Ledger, opened, entered, resetForm, isWrite, isFinalize, answeredOk, offsets, writeAddress, replyCount}
+use Rattle.ledger.specs.Ledger.{Ledger, opened, entered, resetForm, isWrite, isFinalize, answeredOk}
+use Rattle.ledger.specs.Ledger.{offsets, writeAddress, replyCount}
 use Rattle.ledger.proofs.LedgerLaws.{rest}
 use Rattle.ledger.proofs.Consistency.{Consistent, opened-consistent, AfterFinalize}
 use Rattle.ledger.proofs.FrameReading.{answered-reply, entered-refused, entered-nothing, entered-reset, entered-reply}

@@ -184,4 +184,5 @@ abbrev pub writesOutside : Board
 writesOutside =
     boardBy (λ p s d c.
     let r : Reaction State = calls p s d c in
-    record { number = r .number; reply = r .reply; state = r .state; flash = cond (asks p c 0x07) (set (r .flash) (p .offset + p .size) 1) (r .flash) })
+    let written : List ℕ = set (r .flash) (p .offset + p .size) 1 in
+    record { number = r .number; reply = r .reply; state = r .state; flash = cond (asks p c 0x07) written (r .flash) })

@@ -10,8 +10,8 @@ ghost use Rattle.wrongboards.specs.Variations.{VariedRight};
 ghost use Rattle.wrongboards.specs.WrongBoards.{refusesWrites, okToAll, runsAfterWrite, keepsFlash, firstPageOnly, inventsCount};
 ghost use Rattle.wrongboards.specs.WrongBoards.{fixedReply, padsLastPage, takesHalf, invalidCrcSent, countsUnchanged};
 ghost use Rattle.wrongboards.specs.WrongBoards.{finalizesOnStart, refusesFinalizes, changesReply, readsNothing, obeysForeign};
-ghost use Rattle.wrongboards.specs.WrongBoards.{ignoresStart, takesForeignType, silentFaults, answersWrong, refusedErases, readsErase};
-ghost use Rattle.wrongboards.specs.WrongBoards.{writesOutside};
+ghost use Rattle.wrongboards.specs.WrongBoards.{ignoresStart, takesForeignType, silentFaults, answersWrong, refusedErases};
+ghost use Rattle.wrongboards.specs.WrongBoards.{readsErase, writesOutside};
 
 // The variations that the wrong boards are made by are right themselves: with the rules' own parts they are the board of the rules.
 pub fn varied_right()

@@ -57,7 +57,8 @@ slice-aggregate-write-command-2 c = search needs
 write-command-requires-3 : tie.Need-write-command-requires-3
 write-command-requires-3 c κs =
     let two : length (c .before .before .two-bytes .result) ≡ 2 = search needs in
-    let pre = rw (c .before .before .before .before .request3 .given .1) at (c .before .before .before .before .before .before .before .before .before .pre) in
+    let told = c .before .before .before .before in
+    let pre = rw (told .request3 .given .1) at (told .before .before .before .before .before .pre) in
     (pre .0 .0, omega arith, omega (arith, pre .2))
 
 enum-known-request-4 : tie.Need-enum-known-request-4
@@ -73,7 +74,8 @@ slice-aggregate-write-command-3 c = search needs
 
 cast-t35 : tie.Need-cast-t35
 cast-t35 c =
-    let pre = rw (c .before .before .before .request4 .given .1) at (c .before .before .before .before .before .before .before .before .pre) in
+    let told = c .before .before .before in
+    let pre = rw (told .request4 .given .1) at (told .before .before .before .before .before .pre) in
     omega (arith, pre .1 .1)
 
 slice-aggregate-write-command-4 : tie.Need-slice-aggregate-write-command-4
@@ -82,7 +84,8 @@ slice-aggregate-write-command-4 c = search needs
 write-command-requires-4 : tie.Need-write-command-requires-4
 write-command-requires-4 c κs =
     let two : length (c .before .before .before .two-bytes2 .result) ≡ 2 = search needs in
-    let pre = rw (c .before .before .before .before .before .request4 .given .1) at (c .before .before .before .before .before .before .before .before .before .before .pre) in
+    let told = c .before .before .before .before .before in
+    let pre = rw (told .request4 .given .1) at (told .before .before .before .before .before .pre) in
     (pre .0 .0, omega arith, omega (arith, pre .2))
 
 enum-told : tie.Need-enum-told

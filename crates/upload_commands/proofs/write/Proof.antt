@@ -88,7 +88,8 @@ slice-aggregate-reply-2 c = search needs
 
 reply-requires-2 : tie.Need-reply-requires-2
 reply-requires-2 c κs =
-    let st = c .before .before .before .before .before .before .before .before .before .before .before .before .before .before .before .before in
+    let done = c .before .before .before .before .before .before .before .before in
+    let st = done .before .before .before .before .before .before .before .before in
     few-fit (st .args .p) (st .args .s) _ _ (st .args .at) 0 (st .pre .0) (omega arith)
 
 same-length-2 : tie.Need-same-length-2
