@@ -1,5 +1,5 @@
--- `byte_slices::matches` meets its contract. Invariant: what is left is the same exactly where the whole is. By `same-lengths`, `same-here`,
--- `same-next` and `same-end`.
+-- `byte_slices::matches` meets its contract. Invariant: what is left is the same exactly where the whole is. By `same-lengths`,
+-- `same-here`, `same-next` and `same-end`.
 use mathlib.Core.Path.{_≡_, sym, _∙_}
 use Prim.Native.Nat.{_≤_, _-_}
 use native.Mathlib.Omega.{arith}
