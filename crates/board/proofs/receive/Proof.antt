@@ -29,7 +29,7 @@ returns c =
     let out = st .args .out .now in
     let r = check-refused p s (length d) (length out) _ (sym (f .refuse .ensures) ∙ k .check .given .1) in
     rw (received-refused p s d (st .args .address) (st .args .frame .now) (length out) (eqb-false _ 0 (r .not-zero)))
-    (record { called = rw (r .numbered, r .none-made); untouched = λ two. refl })
+    (record { answered = record { called = rw (r .numbered, r .none-made); untouched = λ two. refl }; ignored-kept = λ i. refl })
 
 enum-told : tie.Need-enum-told
 enum-told c = search needs
@@ -59,7 +59,11 @@ returns-2 c =
     let none =
     check-passed p s (length (st .args .flash .now)) (length (st .args .out .now)) (sym (f .refuse .ensures) ∙ e .enum-told .given .1) in
     rw (received-handled p s (st .args .flash .now) (st .args .address) (st .args .frame .now) (length (st .args .out .now)) none)
-    (handled-answered p s (st .args .address) (st .args .frame .now) (st .args .flash .now) _ (st .args .s) _ _ _ _ (j .handle .ensures))
+    (record {
+      answered =
+          handled-answered p s (st .args .address) (st .args .frame .now) (st .args .flash .now) _ (st .args .s) _ _ _ _ (j .handle .ensures);
+      ignored-kept = j .handle .ensures .untouched;
+    })
 
 pub receive-spec : {M : Type 1} → statement M
 receive-spec =
