@@ -84,15 +84,16 @@ module _ (p : Profile) (s : State) (d : List ℕ) where
   handled-formed-call n a f (Ignored reason) unrefused = nothing-formed p 1 s d (unrefused .well-formed)
   handled-formed-call n a f BadTransfer unrefused =
       finishedCall-formed-call p d (destination (p .bus) a f)
-      _ (replying-formed-result p (unrefused-profile unrefused) s (unrefused-state unrefused .upload) d (unrefused .flash-holds) invalidTransfer []
-      (omega arith))
+      _ (replying-formed-result p (unrefused-profile unrefused) s (unrefused-state unrefused .upload) d (unrefused .flash-holds)
+      invalidTransfer [] (omega arith))
   handled-formed-call n a f BadSum unrefused =
       finishedCall-formed-call p d (destination (p .bus) a f)
-      _ (replying-formed-result p (unrefused-profile unrefused) s (unrefused-state unrefused .upload) d (unrefused .flash-holds) invalidCrc [] (omega arith))
+      _ (replying-formed-result p (unrefused-profile unrefused) s (unrefused-state unrefused .upload) d (unrefused .flash-holds)
+      invalidCrc [] (omega arith))
   handled-formed-call n a f Command unrefused =
       finishedCall-formed-call p d (destination (p .bus) a f) _
-      (executed-formed-result p (unrefused-profile unrefused) s (unrefused-state unrefused .upload) d (unrefused .flash-holds) (commandOf (p .bus) f)
-      (argumentsOf (p .bus) f))
+      (executed-formed-result p (unrefused-profile unrefused) s (unrefused-state unrefused .upload) d (unrefused .flash-holds)
+      (commandOf (p .bus) f) (argumentsOf (p .bus) f))
 
   pub received-formed-call : (a : ℕ) (f : List ℕ) (n : ℕ) → wellFormed p s ≡ true → FormedCall p d (received p s a f d n)
   unfolding received

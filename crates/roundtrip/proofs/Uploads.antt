@@ -50,7 +50,8 @@ upload-roundtrip l b image plan ready some fits planned =
     let unrefused = refusal-unrefused (l .profile) (b .state) (length (b .flash)) (l .buffer) (ready .none-refused) in
     let wrote = written-all l (b .flash) plan [] image b 0 refl (going-begins l b ready) (planned .each) (planned .whole) (omega arith) in
     let last = finalize-exchanged l (b .flash) image some (left l b (writes 0 image plan)) (wrote .1) in
-    let stands = last .flash-is ∙ finished-flash (l .profile) (unrefused-profile unrefused) (b .flash) (unrefused .flash-holds) image fits in
+    let stands =
+    last .flash-is ∙ finished-flash (l .profile) (unrefused-profile unrefused) (b .flash) (unrefused .flash-holds) image fits in
     record {
       writes-ok = wrote .0;
       finalize-ok = last .answered-ok;

@@ -59,11 +59,7 @@ returns-2 c =
     let none =
     check-passed p s (length (st .args .flash .now)) (length (st .args .out .now)) (sym (f .refuse .ensures) ∙ e .enum-told .given .1) in
     rw (received-handled p s (st .args .flash .now) (st .args .address) (st .args .frame .now) (length (st .args .out .now)) none)
-    (record {
-      answered =
-          handled-answered p s (st .args .address) (st .args .frame .now) (st .args .flash .now) _ (st .args .s) _ _ _ _ (j .handle .ensures);
-      ignored-kept = j .handle .ensures .untouched;
-    })
+    (handled-answered p s (st .args .address) (st .args .frame .now) (st .args .flash .now) _ (st .args .s) _ _ _ _ (j .handle .ensures))
 
 pub receive-spec : {M : Type 1} → statement M
 receive-spec =
