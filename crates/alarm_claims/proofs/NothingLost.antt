@@ -16,7 +16,7 @@ use Rattle.rules.specs.Commands.{finished}
 use Rattle.laws.proofs.BytesLaws.{length-overlay}
 use Rattle.laws.proofs.OverlayLaws.{getD-overlay-inside}
 use Rattle.laws.proofs.CommitLaws.{standing, noneWaiting, raise, committed-overlay}
-use Rattle.laws.proofs.StateLaws.{refusal-unrefused}
+use Rattle.laws.proofs.StateLaws.{refusal-unrefused, unrefused-profile, unrefused-state}
 use Rattle.laws.proofs.TestLaws.{by-test}
 use Rattle.laws.proofs.UploadLaws.{formed-fitting}
 use Rattle.byte_parts.specs.Parts.{standsAt}
@@ -74,7 +74,7 @@ unfolding finished finalized lostFrom
 finalize-loses-nothing p s d n e =
     let g : Progress = record { upload = s .upload; flash = d } in
     let un = refusal-unrefused p s (length d) n e in
-    let f = formed-fitting p (un .profile) g (un .flash-holds) (un .state .upload) in
+    let f = formed-fitting p (unrefused-profile un) g (un .flash-holds) (unrefused-state un .upload) in
     by-test (eqb (length (s .upload .waiting)) 0)
     (λ none. rw none (kept-loses-nothing (p .offset) (s .upload) d))
     (λ some.

@@ -46,9 +46,21 @@ pub record Handled (s : State) (r : Answer) (d out before : List ℕ) (c : Calle
 
 -- a call on the state s answered r, and left the flash d and the buffer out, which was before
 pub record Answered (s : State) (r : Answer) (d out before : List ℕ) (c : Called) : Type 0 where
+  -- of the state its view: after 0 and 1 the bytes that mean nothing are left open
   pub called : callEffect r d out ≡ expectedEffect c before
   -- refused by 2 or above: the very state that was given, bytes that mean nothing too
   pub untouched : 2 ≤ number (r .outcome) → r .state ≡ s
+
+-- a received frame of verdict v
+pub record FrameAnswered (s : State) (r : Answer) (d out before : List ℕ) (c : Called) (v : Verdict) : Type 0 where
+  pub answered : Answered s r d out before c
+  -- ignored: the very state that was given, bytes that mean nothing too
+  pub ignored-kept : ignored v ≡ true → r .state ≡ s
+
+-- an I²C read: whatever its number, the very state that was given, bytes that mean nothing too
+pub record ReadAnswered (s : State) (r : Answer) (d out before : List ℕ) (c : Called) : Type 0 where
+  pub called : callEffect r d out ≡ expectedEffect c before
+  pub state-is : r .state ≡ s
 
 -- a response's results fit a lent buffer of n bytes and the last reply
 abbrev pub Fits : Bus → ℕ → Response → Type 0

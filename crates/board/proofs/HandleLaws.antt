@@ -17,7 +17,7 @@ use Rattle.laws.proofs.VerdictLaws.{verdict-framed}
 use Rattle.laws.proofs.BoardLaws.{numbered-ignored}
 use Rattle.state.specs.declared.State.{State}
 use Rattle.answer.specs.declared.Answer.{Answer}
-use Rattle.answer.specs.Answered.{CallEffect, Handled, Answered}
+use Rattle.answer.specs.Answered.{CallEffect, Handled, FrameAnswered}
 
 -- a frame whose verdict is a command is long enough to be one
 pub command-long : (bus : Bus) (M : ℕ) (running : Bool) (own : Address) (a : ℕ) (f : List ℕ) → verdict bus M running own a f ≡ Command
@@ -27,11 +27,13 @@ command-long bus M running own a f e = verdict-framed bus M running own a f (ap 
 -- only an ignored frame may have a number of 2 or above
 pub handled-answered : (p : Profile) (now : rules.State) (a : ℕ) (f flash : List ℕ) (v : Verdict) (s : State) (r : Answer)
     (d out before : List ℕ) → Handled s r d out before (handled p now a f flash v) v
-    → Answered s r d out before (handled p now a f flash v)
+    → FrameAnswered s r d out before (handled p now a f flash v) v
 handled-answered p now a f flash v s r d out before h =
+    let same : number (r .outcome) ≡ handled p now a f flash v .number = ap (λ (x : CallEffect). x .number) (h .called) in
     record {
-      called = h .called;
-      untouched = λ two.
-          let same : number (r .outcome) ≡ handled p now a f flash v .number = ap (λ (x : CallEffect). x .number) (h .called) in
-          h .untouched (numbered-ignored p now a f flash v (rw same at two));
+      answered = record {
+        called = h .called;
+        untouched = λ two. h .untouched (numbered-ignored p now a f flash v (rw same at two));
+      };
+      ignored-kept = h .untouched;
     }

@@ -13,12 +13,12 @@ use serve::serve;
 use state::State;
 ghost use mathlib.Core.Path.{_≡_};
 ghost use lib.ListN.{length};
+ghost use Rattle.rules.specs.Numbers.{Unrefused};
 ghost use Rattle.rules.specs.Frames as frames;
 ghost use Rattle.rules.specs.Board.{handled, received};
-ghost use Rattle.laws.proofs.StateLaws as laws;
 ghost use Rattle.state.specs.View.{view};
 ghost use Rattle.profile.specs.View.{profileOf};
-ghost use Rattle.answer.specs.Answered.{Handled, Answered};
+ghost use Rattle.answer.specs.Answered.{Handled, FrameAnswered};
 
 // A frame by its verdict.
 fn handle(
@@ -29,7 +29,7 @@ fn handle(
     flash: &mut [u8],
     out: &mut [u8],
 ) -> Answer
-    requires { ⌜ laws.Unrefused (profileOf p) (view s) (length (now flash)) (length (now out)) ⌝ }
+    requires { ⌜ Unrefused (profileOf p) (view s) (length (now flash)) (length (now out)) ⌝ }
     ensures { λ r.
         ⌜ Handled s r (now (flash .exit)) (now (out .exit)) (now (out .entry))
         (handled (profileOf p) (view s) address (now (frame .entry)) (now (flash .entry))
@@ -65,8 +65,9 @@ pub fn receive(
     out: &mut [u8],
 ) -> Answer
     ensures { λ r.
-        ⌜ Answered s r (now (flash .exit)) (now (out .exit)) (now (out .entry))
-        (received (profileOf p) (view s) address (now (frame .entry)) (now (flash .entry)) (length (now (out .entry)))) ⌝ }
+        ⌜ FrameAnswered s r (now (flash .exit)) (now (out .exit)) (now (out .entry))
+        (received (profileOf p) (view s) address (now (frame .entry)) (now (flash .entry)) (length (now (out .entry))))
+        (frames.verdict (p .bus) (p .longest) (s .running) (s .address) address (now (frame .entry))) ⌝ }
 {
     let check = refusal::refuse(p, s, flash.len(), out.len());
     if let Check::Refused(outcome) = check {

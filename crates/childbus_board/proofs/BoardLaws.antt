@@ -16,7 +16,7 @@ use Rattle.profile.specs.View.{profileOf}
 use Rattle.profile_bytes.specs.ProfileBytes.{profileAt}
 use Rattle.state_bytes.specs.StateBytes.{stateAt, stateWritten}
 use Rattle.answer.specs.declared.Answer.{Answer}
-use Rattle.answer.specs.Answered.{CallEffect, callEffect, expectedEffect, Answered}
+use Rattle.answer.specs.Answered.{CallEffect, callEffect, expectedEffect, Answered, ReadAnswered}
 use Rattle.fields.specs.Fields.{clipped}
 use Rattle.normalize.specs.Normalized.{normalized}
 use Rattle.childbus_board.specs.BoardBytes.{ReceivedLeft, callOf, receivedLeft, ReadLeft, readLeft}
@@ -69,7 +69,7 @@ module _ (profile state : List ℕ) (address : ℕ) (flash out : List ℕ)
           ap (λ (x : CallEffect). x .out) seen-is,
         )
 
-  pub read-left : Answered s r d o out (readOut (profileOf p) (view s) a flash (length out))
+  pub read-left : ReadAnswered s r d o out (readOut (profileOf p) (view s) a flash (length out))
       → _≡_ {A = ReadLeft} (record { number = n; made = m; out = o }) (readLeft profile state address flash out)
   unfolding readLeft
   read-left answered =

@@ -12,9 +12,9 @@ use Rattle.rules.specs.Profile as paper
 use Rattle.rules.specs.Profile.{inRange}
 use Rattle.rules.specs.State as rules
 use Rattle.rules.specs.State.{used, wellFormed}
-use Rattle.rules.specs.Numbers.{refusal}
+use Rattle.rules.specs.Numbers.{refusal, Unrefused}
 use Rattle.rules.specs.Board.{Called, received}
-use Rattle.laws.proofs.StateLaws.{Unrefused, length-used, inRange-facts, wellFormed-facts, refusal-unrefused}
+use Rattle.laws.proofs.StateLaws.{length-used, inRange-facts, wellFormed-facts, refusal-unrefused}
 use Rattle.laws.proofs.TestLaws.{by-test, &&-true}
 use Rattle.laws.proofs.BoardLaws.{received-formed-call, received-refused, refusal-least}
 use Rattle.state.specs.View.{largestPage, largestFrame, view, zeroed}

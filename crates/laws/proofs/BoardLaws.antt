@@ -14,15 +14,15 @@ use Rattle.rules.specs.declared.kinds.Verdict.{Verdict}
 use Rattle.rules.specs.declared.kinds.Verdict.the-variants.{Reset, ResetAddress, Ignored, BadTransfer, BadSum, Command}
 use Rattle.rules.specs.Profile.{Profile, inRange}
 use Rattle.rules.specs.State.{State, fresh, withLast, wellFormed}
-use Rattle.rules.specs.Numbers.{refusal, flashShort, bufferShort}
+use Rattle.rules.specs.Numbers.{refusal, flashShort, bufferShort, Unrefused}
 use Rattle.rules.specs.Frames.{reply, destination, verdict, ignored, commandOf, argumentsOf}
 use Rattle.rules.specs.Commit.{OutsideKept}
 use Rattle.rules.specs.Responses.{Response, Reply, NoReply, Acted, invalidTransfer, invalidCrc}
 use Rattle.rules.specs.Commands.{executed}
 use Rattle.rules.specs.Board.{Called, nothing, withReply, replied, finishedCall, addressReset, handled, refused, received, readAnswered}
 use Rattle.rules.specs.Board.{readOut}
-use Rattle.laws.proofs.StateLaws.{UploadFacts, ReplyFacts, Unrefused, facts-wellFormed, wellFormed-facts, fresh-wellFormed}
-use Rattle.laws.proofs.StateLaws.{refusal-unrefused}
+use Rattle.laws.proofs.StateLaws.{UploadFacts, ReplyFacts, facts-wellFormed, wellFormed-facts, fresh-wellFormed}
+use Rattle.laws.proofs.StateLaws.{refusal-unrefused, unrefused-profile, unrefused-state}
 use Rattle.laws.proofs.TestLaws.{by-test}
 use Rattle.laws.proofs.UploadLaws.{outside-refl}
 use Rattle.laws.proofs.CommandLaws.{Fits, FormedResult, length-reply, replying-formed-result, executed-formed-result}
@@ -80,19 +80,20 @@ module _ (p : Profile) (s : State) (d : List ℕ) where
   unfolding handled
   handled-formed-call n a f Reset unrefused = nothing-formed p 1 fresh d (fresh-wellFormed p)
   handled-formed-call n a f ResetAddress unrefused =
-      nothing-formed p 1 (addressReset s) d (addressReset-formed p s (unrefused .state .upload))
+      nothing-formed p 1 (addressReset s) d (addressReset-formed p s (unrefused-state unrefused .upload))
   handled-formed-call n a f (Ignored reason) unrefused = nothing-formed p 1 s d (unrefused .well-formed)
   handled-formed-call n a f BadTransfer unrefused =
       finishedCall-formed-call p d (destination (p .bus) a f)
-      _ (replying-formed-result p (unrefused .profile) s (unrefused .state .upload) d (unrefused .flash-holds) invalidTransfer []
-      (omega arith))
+      _ (replying-formed-result p (unrefused-profile unrefused) s (unrefused-state unrefused .upload) d (unrefused .flash-holds)
+      invalidTransfer [] (omega arith))
   handled-formed-call n a f BadSum unrefused =
       finishedCall-formed-call p d (destination (p .bus) a f)
-      _ (replying-formed-result p (unrefused .profile) s (unrefused .state .upload) d (unrefused .flash-holds) invalidCrc [] (omega arith))
+      _ (replying-formed-result p (unrefused-profile unrefused) s (unrefused-state unrefused .upload) d (unrefused .flash-holds)
+      invalidCrc [] (omega arith))
   handled-formed-call n a f Command unrefused =
       finishedCall-formed-call p d (destination (p .bus) a f) _
-      (executed-formed-result p (unrefused .profile) s (unrefused .state .upload) d (unrefused .flash-holds) (commandOf (p .bus) f)
-      (argumentsOf (p .bus) f))
+      (executed-formed-result p (unrefused-profile unrefused) s (unrefused-state unrefused .upload) d (unrefused .flash-holds)
+      (commandOf (p .bus) f) (argumentsOf (p .bus) f))
 
   pub received-formed-call : (a : ℕ) (f : List ℕ) (n : ℕ) → wellFormed p s ≡ true → FormedCall p d (received p s a f d n)
   unfolding received

@@ -108,17 +108,17 @@ pub record Linear (k : Algorithm) : Type 0 where
   pub out-xor : (a b : ℕ) → k .out (bitXor a b) ≡ xor (k .out a) (k .out b)
   pub rest-xor : (a b : ℕ) → k .rest (bitXor a b) ≡ bitXor (k .rest a) (k .rest b)
 
-pub mostFirst-linear : (width poly start : ℕ) → Linear (mostFirst width poly start)
-mostFirst-linear width poly start = record {
-  out-xor = λ a b. rw (xor-shr a b (width - 1)) (xor-test (a / 2 ^ (width - 1)) (b / 2 ^ (width - 1)));
-  rest-xor = λ a b. rw (xor-double a b) (xor-mod (a * 2) (b * 2) width);
+pub mostFirst-linear : (poly start : ℕ) → Linear (mostFirst poly start)
+mostFirst-linear poly start = record {
+  out-xor = λ a b. rw (xor-shr a b 7) (xor-test (a / 128) (b / 128));
+  rest-xor = λ a b. rw (xor-double a b) (xor-mod (a * 2) (b * 2) 8);
 }
 
 pub leastFirst-linear : (poly start : ℕ) → Linear (leastFirst poly start)
 leastFirst-linear poly start = record { out-xor = xor-test; rest-xor = xor-half }
 
 pub crc8-linear : Linear crc8
-crc8-linear = mostFirst-linear 8 0x07 0xFF
+crc8-linear = mostFirst-linear 0x07 0xFF
 
 pub crc16-linear : Linear crc16
 crc16-linear = leastFirst-linear 0xA001 0xFFFF
@@ -188,34 +188,33 @@ module _ (poly start : ℕ) where
       (low-none-out n (r / 2 ^ n * 2 ^ n) (mul-mod-left (r / 2 ^ n) (2 ^ n)))
       ∙ rw times-half (ap (bitXor (times n (bit (leastFirst poly start)) (r % 2 ^ n))) (shl-shr (r / 2 ^ n) n))
 
--- most significant bit first, at a width of m + n: the n high bits fall out
-module _ (m poly start : ℕ) where
-  times-double : (n i r : ℕ) → i ≤ n → r < 2 ^ m → times i (mostFirst (m + n) poly start .rest) r ≡ r * 2 ^ i
-  times-double n zero r b h = omega arith
-  times-double n (suc i) r b h =
+-- most significant bit first: the n high bits fall out, m stay
+module _ (poly start m n : ℕ) (whole : m + n ≡ 8) where
+  times-double : (i r : ℕ) → i ≤ n → r < 2 ^ m → times i (mostFirst poly start .rest) r ≡ r * 2 ^ i
+  times-double zero r b h = omega arith
+  times-double (suc i) r b h =
       let next : r * 2 ^ i * 2 ≡ r * 2 ^ suc i = rw pow-suc (mul-assoc r (2 ^ i) 2) in
-      rw (times-double n i r (omega arith) h, next) (shl-exact m (suc i) (m + n) h (omega arith))
+      rw (times-double i r (omega arith) h, next) (shl-exact m (suc i) 8 h (omega arith))
 
-  high-none-out : (n r : ℕ) → r < 2 ^ m → NoneOut (mostFirst (m + n) poly start) n r
-  high-none-out n r h i b =
-      let below : r * 2 ^ i < 2 ^ (m + n - 1) = lt-of-lt-of-le (shl-lt m i h) (pow-mono (omega arith)) in
-      rw (times-double n i r (omega arith) h, div-eq-of-lt below)
+  high-none-out : (r : ℕ) → r < 2 ^ m → NoneOut (mostFirst poly start) n r
+  high-none-out r h i b =
+      let below : r * 2 ^ i < 2 ^ 7 = lt-of-lt-of-le (shl-lt m i h) (pow-mono {j = 7} (omega arith)) in
+      rw (times-double i r (omega arith) h, div-eq-of-lt below)
 
-  pub mostFirst-none-out : (n r : ℕ) → r < 2 ^ m → times n (bit (mostFirst (m + n) poly start)) r ≡ r * 2 ^ n
-  mostFirst-none-out n r h =
-      times-none-out (mostFirst (m + n) poly start) n r (high-none-out n r h) ∙ times-double n n r (omega arith) h
+  pub mostFirst-none-out : (r : ℕ) → r < 2 ^ m → times n (bit (mostFirst poly start)) r ≡ r * 2 ^ n
+  mostFirst-none-out r h = times-none-out (mostFirst poly start) n r (high-none-out r h) ∙ times-double n r (omega arith) h
 
-  pub mostFirst-steps : (n r : ℕ) → times n (bit (mostFirst (m + n) poly start)) r
-      ≡ bitXor (times n (bit (mostFirst (m + n) poly start)) (r / 2 ^ m * 2 ^ m)) (r % 2 ^ m * 2 ^ n)
-  mostFirst-steps n r =
-      ap (times n (bit (mostFirst (m + n) poly start))) (sym (high-low r m))
-      ∙ times-parts (mostFirst (m + n) poly start) (mostFirst-linear (m + n) poly start) n (r / 2 ^ m * 2 ^ m) (r % 2 ^ m)
-      (high-none-out n (r % 2 ^ m) (mod-lt r (pow-pos m)))
-      ∙ rw (times-double n n (r % 2 ^ m) (omega arith) (mod-lt r (pow-pos m)))
+  pub mostFirst-steps : (r : ℕ) → times n (bit (mostFirst poly start)) r
+      ≡ bitXor (times n (bit (mostFirst poly start)) (r / 2 ^ m * 2 ^ m)) (r % 2 ^ m * 2 ^ n)
+  mostFirst-steps r =
+      ap (times n (bit (mostFirst poly start))) (sym (high-low r m))
+      ∙ times-parts (mostFirst poly start) (mostFirst-linear poly start) n (r / 2 ^ m * 2 ^ m) (r % 2 ^ m)
+      (high-none-out (r % 2 ^ m) (mod-lt r (pow-pos m)))
+      ∙ rw (times-double n (r % 2 ^ m) (omega arith) (mod-lt r (pow-pos m)))
 
 -- half a byte: what the steps make of the four bits that fall out, and the others moved
 pub crc8-half : (r : ℕ) → times 4 (bit crc8) r ≡ bitXor (times 4 (bit crc8) (r / 16 * 16)) (r % 16 * 16)
-crc8-half = mostFirst-steps 4 0x07 0xFF 4
+crc8-half = mostFirst-steps 0x07 0xFF 4 4 refl
 
 pub crc16-half : (r : ℕ) → times 4 (bit crc16) r ≡ bitXor (times 4 (bit crc16) (r % 16)) (r / 16)
 crc16-half = leastFirst-steps 0xA001 0xFFFF 4
@@ -228,14 +227,14 @@ pub record Bounded (width : ℕ) (k : Algorithm) : Type 0 where
   pub poly-lt : k .poly < 2 ^ width
   pub rest-lt : (r : ℕ) → r < 2 ^ width → k .rest r < 2 ^ width
 
-pub mostFirst-bounded : (width poly start : ℕ) → poly < 2 ^ width → start < 2 ^ width → Bounded width (mostFirst width poly start)
-mostFirst-bounded width poly start hp hs = record { start-lt = hs; poly-lt = hp; rest-lt = λ r h. mod-lt (r * 2) (pow-pos width) }
+pub mostFirst-bounded : (poly start : ℕ) → poly < 2 ^ 8 → start < 2 ^ 8 → Bounded 8 (mostFirst poly start)
+mostFirst-bounded poly start hp hs = record { start-lt = hs; poly-lt = hp; rest-lt = λ r h. omega arith }
 
 pub leastFirst-bounded : (width poly start : ℕ) → poly < 2 ^ width → start < 2 ^ width → Bounded width (leastFirst poly start)
 leastFirst-bounded width poly start hp hs = record { start-lt = hs; poly-lt = hp; rest-lt = λ r h. omega arith }
 
 pub crc8-bounded : Bounded 8 crc8
-crc8-bounded = mostFirst-bounded 8 0x07 0xFF (omega arith) (omega arith)
+crc8-bounded = mostFirst-bounded 0x07 0xFF (omega arith) (omega arith)
 
 pub crc16-bounded : Bounded 16 crc16
 crc16-bounded = leastFirst-bounded 16 0xA001 0xFFFF (omega arith) (omega arith)

@@ -15,7 +15,7 @@ use Rattle.rules.specs.declared.kinds.Bus.the-variants.{I2c, Rs485}
 use Rattle.rules.specs.Profile.{Profile, frameInRange, largestPage, pageInRange, paged, sizeInRange, offsetInRange, hardwareInRange}
 use Rattle.rules.specs.Profile.{inRange}
 use Rattle.rules.specs.State.{State, Upload, fresh, used, uploadFormed, replyFormed, wellFormed}
-use Rattle.rules.specs.Numbers.{refusal, flashShort, bufferShort}
+use Rattle.rules.specs.Numbers.{refusal, flashShort, bufferShort, Unrefused}
 use Rattle.laws.proofs.TestLaws.{&&-true}
 use Rattle.laws.proofs.BytesLaws.{length-zero}
 
@@ -140,14 +140,12 @@ fresh-wellFormed p =
 
 -- the numbers 2 to 5
 
--- what holds where none of them applies
-pub record Unrefused (p : Profile) (s : State) (flashLength bufferLength : ℕ) : Type 0 where
-  pub in-range : inRange p ≡ true
-  pub well-formed : wellFormed p s ≡ true
-  pub flash-holds : p .offset + p .size ≤ flashLength
-  pub buffer-holds : p .longest ≤ bufferLength
-  pub profile : ProfileFacts p
-  pub state : StateFacts p s
+-- the facts of profile and state where none of them applies
+pub unrefused-profile : {p : Profile} {s : State} {n m : ℕ} → Unrefused p s n m → ProfileFacts p
+unrefused-profile {p} u = inRange-facts p (u .in-range)
+
+pub unrefused-state : {p : Profile} {s : State} {n m : ℕ} → Unrefused p s n m → StateFacts p s
+unrefused-state {p} {s} u = wellFormed-facts p s (u .well-formed)
 
 cond-zero : (b : Bool) (k x : ℕ) → 0 < k → cond b k x ≡ 0 → (b ≡ false) × (x ≡ 0)
 cond-zero true k x h e = absurd (omega arith)
@@ -160,15 +158,11 @@ refusal-unrefused p s n m e =
     let three = cond-zero (flashShort p n) 3 _ (omega arith) (two .1) in
     let four = cond-zero (not (wellFormed p s)) 4 _ (omega arith) (three .1) in
     let five = cond-zero (bufferShort p m) 5 0 (omega arith) (four .1) in
-    let range = not-false (inRange p) (two .0) in
-    let formed = not-false (wellFormed p s) (four .0) in
     record {
-      in-range = range;
-      well-formed = formed;
+      in-range = not-false (inRange p) (two .0);
       flash-holds = ltb-false _ _ (three .0);
+      well-formed = not-false (wellFormed p s) (four .0);
       buffer-holds = ltb-false _ _ (five .0);
-      profile = inRange-facts p range;
-      state = wellFormed-facts p s formed;
     }
 
 pub unrefused-refusal : (p : Profile) (s : State) (n m : ℕ) → inRange p ≡ true → wellFormed p s ≡ true → p .offset + p .size ≤ n

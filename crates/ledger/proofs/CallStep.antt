@@ -12,12 +12,12 @@ use Rattle.rules.specs.declared.kinds.Address.the-variants.{DefaultRange}
 use Rattle.rules.specs.declared.kinds.Verdict.{Verdict}
 use Rattle.rules.specs.Profile.{Profile, inRange}
 use Rattle.rules.specs.State.{State, wellFormed}
-use Rattle.rules.specs.Numbers.{refusal, flashShort, bufferShort}
+use Rattle.rules.specs.Numbers.{refusal, flashShort, bufferShort, Unrefused}
 use Rattle.rules.specs.Frames.{destination, framing, verdict}
 use Rattle.rules.specs.Responses.{invalidTransfer, invalidCrc}
 use Rattle.rules.specs.Board.{nothing, addressReset, handled, received, readOut, readAnswered}
 use Rattle.laws.proofs.BoardLaws.{refusal-least}
-use Rattle.laws.proofs.StateLaws.{Unrefused, refusal-unrefused}
+use Rattle.laws.proofs.StateLaws.{refusal-unrefused}
 use Rattle.laws.proofs.TestLaws.{by-test}
 use Rattle.laws.proofs.VerdictLaws.{framing-cases, verdict-cases}
 use Rattle.ledger.specs.Ledger.{Ledger, resetForm}

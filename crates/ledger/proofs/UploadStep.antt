@@ -16,7 +16,8 @@ use Rattle.rules.specs.Commit.{Progress, takenAll, finalized}
 use Rattle.rules.specs.Responses.{Reply, invalidArguments, ok}
 use Rattle.rules.specs.Commands.{accepted, restarted, written, finished}
 use Rattle.rules.specs.Board.{withReply, replied, finishedCall}
-use Rattle.laws.proofs.StateLaws.{Unrefused}
+use Rattle.rules.specs.Numbers.{Unrefused}
+use Rattle.laws.proofs.StateLaws.{unrefused-profile, unrefused-state}
 use Rattle.laws.proofs.TestLaws.{by-test, &&-true}
 use Rattle.ledger.specs.Ledger.{Ledger, opened, writes, joinsAll, finalizes, entered, writeAddress, writeData}
 use Rattle.ledger.proofs.LedgerLaws.{rest}
@@ -36,15 +37,15 @@ pub unrefused-serving : (p : Profile) (s : State) (d : List ℕ) (k : Ledger) (m
     → Keeps p s d k → Serving p s d k
 unrefused-serving p s d k m h off i =
     let held : length (s .upload .waiting) ≡ length (rest k) = ap length (i .waiting-is off) in
-    let page : 0 < p .page = h .profile .page-least in
+    let page : 0 < p .page = unrefused-profile h .page-least in
     let long : length d ≡ length (k .copy) = ap length (i .flash-is) in
     record {
-      pages = record { page-pos = page; sized = h .profile .size-paged };
+      pages = record { page-pos = page; sized = unrefused-profile h .size-paged };
       agrees = record { flash-is = i .flash-is; count-is = i .count-is; next-is = i .next-is; waiting-is = i .waiting-is off };
       going = record {
         balanced = i .balanced;
-        in-page = rw (← held, ← i .next-is) (h .state .upload .waiting-most);
-        fits = omega (arith, h .state .upload .next-most, i .next-is);
+        in-page = rw (← held, ← i .next-is) (unrefused-state h .upload .waiting-most);
+        fits = omega (arith, unrefused-state h .upload .next-most, i .next-is);
         room = omega (arith, h .flash-holds, i .balanced .as-long);
       };
     }

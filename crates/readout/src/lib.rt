@@ -12,7 +12,7 @@ ghost use lib.ListN.{length};
 ghost use Rattle.rules.specs.Board.{readOut, readAnswered};
 ghost use Rattle.state.specs.View.{view};
 ghost use Rattle.profile.specs.View.{profileOf};
-ghost use Rattle.answer.specs.Answered.{Answered};
+ghost use Rattle.answer.specs.Answered.{ReadAnswered};
 
 // There is a last reply for this address.
 fn i2c_read_answered(s: State, address: u8) -> bool
@@ -37,10 +37,10 @@ fn read_answered(bus: Bus, s: State, address: u8) -> bool
     }
 }
 
-// An I²C read hands out the last reply and keeps it as it is.
+// An I²C read hands out the last reply and keeps it as it is; the state comes back as it was given.
 pub fn read(p: Profile, s: State, address: u8, flash: &[u8], out: &mut [u8]) -> Answer
     ensures { λ r.
-        ⌜ Answered s r (now (flash .entry)) (now (out .exit)) (now (out .entry))
+        ⌜ ReadAnswered s r (now (flash .entry)) (now (out .exit)) (now (out .entry))
         (readOut (profileOf p) (view s) address (now (flash .entry)) (length (now (out .entry)))) ⌝ }
 {
     let check = refusal::refuse(p, s, flash.len(), out.len());

@@ -33,7 +33,7 @@ abbrev pub ruledCall : Profile → State → List ℕ → ℕ → CallInput → 
 ruledCall p s d n (Receive a f) = received (profileOf p) (view s) a f d n
 ruledCall p s d n (Read a) = readOut (profileOf p) (view s) a d n
 
--- the call did what the contract of `board::receive` or `readout::read` promises, on the state s and the flash d
+-- the call did what the contracts of `board::receive` and `readout::read` both promise, on the state s and the flash d
 abbrev pub Promised : Profile → State → List ℕ → Happened → Type 0
 Promised p s d h = Answered s (h .answer) (h .flash) (h .after) (h .before) (ruledCall p s d (length (h .before)) (h .input))
 

@@ -40,11 +40,11 @@ fn set_address_wrong(bus: Bus, address: usize, hardware: usize) -> bool
 }
 
 // A flash address over 65,535, or a read longer than a reply holds.
-fn read_wrong(bus: Bus, longest: usize, address: usize, length: usize) -> bool
+fn read_wrong(bus: Bus, longest: usize, address: usize, asked: usize) -> bool
     requires { ⌜ 32 ≤ longest ⌝ }
-    ensures { λ r. ⌜ r ≡ readWrong bus longest address length ⌝ }
+    ensures { λ r. ⌜ r ≡ readWrong bus longest address asked ⌝ }
 {
-    65535 < address || longest - frame_sizes::shortest_reply(bus) < length
+    65535 < address || longest - frame_sizes::shortest_reply(bus) < asked
 }
 
 // A request with its data bytes. The general calls have no arguments.

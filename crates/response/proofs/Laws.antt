@@ -3,6 +3,7 @@ use Prim.Native.Nat.{ℕ, _+_, _≤_}
 use native.Mathlib.Omega.{arith}
 use Rattle.rules.specs.Frames.{shortestReply}
 use Rattle.laws.proofs.SizeLaws.{shortestReply-le}
+use Rattle.laws.proofs.StateLaws.{unrefused-profile}
 use Rattle.state.specs.declared.State.{State}
 use Rattle.profile.specs.declared.Profile.{Profile}
 use Rattle.response.specs.Done.{Serving}
@@ -14,4 +15,4 @@ results-fit p s n m at k serving held = omega (arith, serving .at-is, serving .u
 -- and so do a few of them in any case
 pub few-fit : (p : Profile) (s : State) (n m at k : ℕ) → Serving p s n m at → k ≤ 27 → at + k ≤ m
 few-fit p s n m at k serving few =
-    results-fit p s n m at k serving (omega (arith, shortestReply-le (p .bus), serving .unrefused .profile .longest-least))
+    results-fit p s n m at k serving (omega (arith, shortestReply-le (p .bus), unrefused-profile (serving .unrefused) .longest-least))

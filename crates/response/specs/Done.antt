@@ -5,10 +5,10 @@ use mathlib.Core.Path.{_≡_}
 use lib.ListN.{length}
 use Rattle.rules.specs.Bytes.{overlay}
 use Rattle.rules.specs.State as rules
+use Rattle.rules.specs.Numbers.{Unrefused}
 use Rattle.rules.specs.Responses as responses
 use Rattle.rules.specs.Responses.{Acted, Reply, NoReply}
 use Rattle.rules.specs.Frames.{headerLength}
-use Rattle.laws.proofs.StateLaws as laws
 use Rattle.state.specs.declared.State.{State}
 use Rattle.state.specs.View.{view}
 use Rattle.profile.specs.declared.Profile.{Profile}
@@ -43,5 +43,5 @@ ruledCommand a out at =
 
 -- what a command function asks: none of the numbers 2 to 5 applies, and results begin behind the header, the status and their count
 pub record Serving (p : Profile) (s : State) (flashLength bufferLength at : ℕ) : Type 0 where
-  pub unrefused : laws.Unrefused (profileOf p) (view s) flashLength bufferLength
+  pub unrefused : Unrefused (profileOf p) (view s) flashLength bufferLength
   pub at-is : at ≡ headerLength (p .bus) + 2

@@ -17,7 +17,8 @@ use Rattle.rules.specs.Frames.{shortestRequest, shortestReply, twoBytes, reques
 use Rattle.rules.specs.Commands.{tabled, served, lengthAllowed}
 use Rattle.rules.specs.Master.{addressOver, commandWrong, argumentWrong, requestBytes, encoded}
 use Rattle.laws.proofs.TestLaws.{&&-true}
-use Rattle.laws.proofs.StateLaws.{Unrefused, refusal-unrefused}
+use Rattle.rules.specs.Numbers.{Unrefused}
+use Rattle.laws.proofs.StateLaws.{refusal-unrefused, unrefused-profile}
 use Rattle.laws.proofs.FrameLaws.{length-request, addressed-address}
 use Rattle.roundtrip.specs.Sending.{encoding}
 use Rattle.roundtrip.specs.Exchanges.{Line, Board, Ready, sending}
@@ -72,7 +73,7 @@ module _ (l : Line) (b : Board) (ready : Ready l b) where
         let M : ℕ = l .profile .longest in
         let n : ℕ = length (twoBytes at ++ bytes) in
         let bounds = shortestRequest-within (l .profile .bus) in
-        let range = unrefused .profile in
+        let range = unrefused-profile unrefused in
         let fits : shortestRequest (l .profile .bus) + n ≤ M = omega (arith, bounds .0, bounds .1, range .longest-least) in
         let allowed : lengthAllowed 0x06 n ≡ true =
         rw (le-leb 2 n (omega arith), le-leb n 254 (omega (arith, bounds .0, range .longest-most))) in
@@ -86,7 +87,7 @@ module _ (l : Line) (b : Board) (ready : Ready l b) where
     read-made n most =
         let M : ℕ = l .profile .longest in
         let bounds = shortestRequest-within (l .profile .bus) in
-        let range = unrefused .profile in
+        let range = unrefused-profile unrefused in
         let fits : shortestRequest (l .profile .bus) + 3 ≤ M = omega (arith, bounds .1, range .longest-least) in
         encoded-zero (l .profile .bus) M (Read at n) (l .to) [] (l .buffer) (range .longest-least) (range .longest-most)
         (rw (command-right 0x08 3 refl refl fits, le-ltb 65535 at address, le-ltb (M - shortestReply (l .profile .bus)) n most))
@@ -97,7 +98,7 @@ module _ (l : Line) (b : Board) (ready : Ready l b) where
   finalize-made =
       let M : ℕ = l .profile .longest in
       let bounds = shortestRequest-within (l .profile .bus) in
-      let range = unrefused .profile in
+      let range = unrefused-profile unrefused in
       encoded-zero (l .profile .bus) M (Plain 0x07) (l .to) [] (l .buffer) (range .longest-least) (range .longest-most)
       (rw (command-right 0x07 0 refl refl (omega (arith, bounds .1, range .longest-least))))
       (omega (arith, length-request (l .profile .bus) (l .to) 0x07 [], unrefused .buffer-holds, bounds .1, range .longest-least))

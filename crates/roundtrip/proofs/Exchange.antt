@@ -14,7 +14,8 @@ use Rattle.rules.specs.Frames.{addressed, reply}
 use Rattle.rules.specs.Responses.{Reply, Acted, ok}
 use Rattle.rules.specs.Commands.{performed}
 use Rattle.rules.specs.Board.{withReply}
-use Rattle.laws.proofs.StateLaws.{Unrefused, refusal-unrefused, unrefused-refusal}
+use Rattle.rules.specs.Numbers.{Unrefused}
+use Rattle.laws.proofs.StateLaws.{refusal-unrefused, unrefused-refusal}
 use Rattle.laws.proofs.BoardLaws.{FormedCall, received-formed-call, withReply-upload}
 use Rattle.rules.specs.Master.{Instruction, Commands}
 use Rattle.roundtrip.specs.Sending.{Sending, Given, Beside, AddressedBy, target, bus, encoding, frame, call}

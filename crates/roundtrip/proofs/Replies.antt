@@ -14,7 +14,7 @@ use Rattle.rules.specs.declared.kinds.Bus.the-variants.{I2c, Rs485}
 use Rattle.rules.specs.declared.kinds.Address.the-variants.{Own}
 use Rattle.rules.specs.Profile.{Profile}
 use Rattle.rules.specs.State.{State}
-use Rattle.rules.specs.Numbers.{refusal}
+use Rattle.rules.specs.Numbers.{refusal, Unrefused}
 use Rattle.rules.specs.Frames.{shortestReply, reply, addressed}
 use Rattle.rules.specs.Responses.{Response, Reply, NoReply, Acted}
 use Rattle.rules.specs.Commands.{addressTaken, setAddress, performed, served}
@@ -22,7 +22,7 @@ use Rattle.rules.specs.Board.{Called, withReply, readAnswered, readOut}
 use Rattle.rules.specs.Master.{Instruction, Commands, AddressReset, BoardReset}
 use Rattle.rules.specs.Master.{resultsMissing, decodedRead, resultsIn, resultBytes, whichRead, addressOver}
 use Rattle.laws.proofs.TestLaws.{by-test}
-use Rattle.laws.proofs.StateLaws.{Unrefused, refusal-unrefused, unrefused-refusal}
+use Rattle.laws.proofs.StateLaws.{refusal-unrefused, unrefused-refusal}
 use Rattle.laws.proofs.CommandLaws.{length-reply, setAddress-cases}
 use Rattle.laws.proofs.BoardLaws.{FormedCall, received-formed-call, withReply-kept}
 use Rattle.laws.proofs.FrameLaws.{Ends, decoded-reply, results-reply}

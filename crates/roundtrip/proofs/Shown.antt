@@ -15,7 +15,7 @@ use Rattle.rules.specs.Bytes.{overlay}
 use Rattle.rules.specs.Frames.{shortestReply, twoBytes, numberAt}
 use Rattle.rules.specs.Responses.{replying, ok}
 use Rattle.rules.specs.Commands.{shown, performed}
-use Rattle.laws.proofs.StateLaws.{ProfileFacts, refusal-unrefused}
+use Rattle.laws.proofs.StateLaws.{ProfileFacts, refusal-unrefused, unrefused-profile}
 use Rattle.laws.proofs.OverlayLaws.{part-overlay}
 use Rattle.roundtrip.specs.Sending.{Sending}
 use Rattle.roundtrip.specs.Exchanges.{Line, Board, Ready, sending, after, exchanges, EachOk, allResults}
@@ -39,7 +39,7 @@ module _ (l : Line) (d image : List ℕ) (fits : length image ≤ l .profile .si
     x = sending l b (record { request = Read at n; bytes = [] })
 
     facts : ProfileFacts (l .profile)
-    facts = refusal-unrefused (l .profile) (b .state) (length (b .flash)) (l .buffer) (ready .none-refused) .profile
+    facts = unrefused-profile (refusal-unrefused (l .profile) (b .state) (length (b .flash)) (l .buffer) (ready .none-refused))
 
     read-exchanged : Exchanged l x (b .state .upload) (b .flash) (take n (drop at image))
     read-exchanged =

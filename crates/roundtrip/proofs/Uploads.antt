@@ -13,7 +13,7 @@ use Rattle.rules.specs.State.{Upload}
 use Rattle.rules.specs.Commit.{Progress, takenAll, finalized}
 use Rattle.rules.specs.Frames.{twoBytes}
 use Rattle.rules.specs.Commands.{restarted, finished, performed}
-use Rattle.laws.proofs.StateLaws.{refusal-unrefused}
+use Rattle.laws.proofs.StateLaws.{refusal-unrefused, unrefused-profile}
 use Rattle.laws.proofs.ImageLaws.{begins, finished-flash}
 use Rattle.laws.proofs.OverlayLaws.{getD-overlay-outside}
 use Rattle.roundtrip.specs.Exchanges.{Line, Board, sending, left}
@@ -50,7 +50,8 @@ upload-roundtrip l b image plan ready some fits planned =
     let unrefused = refusal-unrefused (l .profile) (b .state) (length (b .flash)) (l .buffer) (ready .none-refused) in
     let wrote = written-all l (b .flash) plan [] image b 0 refl (going-begins l b ready) (planned .each) (planned .whole) (omega arith) in
     let last = finalize-exchanged l (b .flash) image some (left l b (writes 0 image plan)) (wrote .1) in
-    let stands = last .flash-is ∙ finished-flash (l .profile) (unrefused .profile) (b .flash) (unrefused .flash-holds) image fits in
+    let stands =
+    last .flash-is ∙ finished-flash (l .profile) (unrefused-profile unrefused) (b .flash) (unrefused .flash-holds) image fits in
     record {
       writes-ok = wrote .0;
       finalize-ok = last .answered-ok;

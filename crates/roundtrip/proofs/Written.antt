@@ -20,7 +20,7 @@ use Rattle.rules.specs.Commands.{restarted, written, performed}
 use Rattle.laws.proofs.CommitLaws.{takenAll-append}
 use Rattle.laws.proofs.TestLaws.{by-test}
 use Rattle.laws.proofs.UploadLaws.{next-takenAll}
-use Rattle.laws.proofs.StateLaws.{ProfileFacts, refusal-unrefused}
+use Rattle.laws.proofs.StateLaws.{ProfileFacts, refusal-unrefused, unrefused-profile}
 use Rattle.laws.proofs.ImageLaws.{begins}
 use Rattle.roundtrip.specs.Exchanges.{Line, Board, Ready, Message, sending, after, exchanges, left, EachOk}
 use Rattle.roundtrip.specs.UploadRoundtrip.{total, EachMost, dataMost, writes}
@@ -75,7 +75,7 @@ module _ (l : Line) (d : List ℕ) where
     g = takenAll (l .profile) (resumed (length front) b) bytes
 
     facts : ProfileFacts (l .profile)
-    facts = refusal-unrefused (l .profile) (b .state) (length (b .flash)) (l .buffer) (going .ready .none-refused) .profile
+    facts = unrefused-profile (refusal-unrefused (l .profile) (b .state) (length (b .flash)) (l .buffer) (going .ready .none-refused))
 
     next-is : restarted (length front) (b .state .upload) .next ≡ length front
     next-is = ap (λ (q : Progress). q .upload .next) (going .resumes) ∙ next-takenAll (l .profile) (begins d) front ∙ omega arith

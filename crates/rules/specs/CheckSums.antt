@@ -1,7 +1,7 @@
 -- Document 01, "Frames and check sums": CRC-8 and CRC-16/Modbus by one definition over the algorithm, bit by bit.
 use mathlib.Core.Bool.{Bool, cond}
 use mathlib.Core.List.{List, [], _∷_, _++_}
-use Prim.Native.Nat.{ℕ, zero, suc, _-_, _*_, _/_, _%_, _^_}
+use Prim.Native.Nat.{ℕ, zero, suc, _-_, _*_, _/_, _%_}
 use lib.Bits.{bitXor}
 use lib.Dec.{eqb}
 use lib.ListN.{length, take, drop}
@@ -16,10 +16,9 @@ pub record Algorithm : Type 0 where
   pub poly : ℕ
   pub start : ℕ
 
--- most significant bit first, at a width
-abbrev pub mostFirst : ℕ → ℕ → ℕ → Algorithm
-mostFirst width poly start =
-    record { out = λ r. eqb (r / 2 ^ (width - 1) % 2) 1; rest = λ r. r * 2 % 2 ^ width; poly = poly; start = start }
+-- most significant bit first, in a register of 8 bits
+abbrev pub mostFirst : ℕ → ℕ → Algorithm
+mostFirst poly start = record { out = λ r. eqb (r / 128 % 2) 1; rest = λ r. r * 2 % 256; poly = poly; start = start }
 
 -- least significant bit first, with the polynomial reflected
 abbrev pub leastFirst : ℕ → ℕ → Algorithm
@@ -49,7 +48,7 @@ crc k bs = run k (k .start) bs
 
 -- CRC-8: start 0xFF, most significant bit first, polynomial x^8 + x^2 + x + 1
 abbrev pub crc8 : Algorithm
-crc8 = mostFirst 8 0x07 0xFF
+crc8 = mostFirst 0x07 0xFF
 
 -- CRC-16: Modbus, reflected polynomial 0xA001, start 0xFFFF
 abbrev pub crc16 : Algorithm

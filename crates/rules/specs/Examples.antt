@@ -1,5 +1,5 @@
--- Document 01, "Proved examples", in one table with one statement. E1 to E12, the edges that it names as rows 13 to 19, a shorter upload
--- over a longer one as row 20, and the edges of the sizes (numbers 2 and 4) as rows 21 to 29.
+-- Document 01, "Proved examples", in one table with one statement. E1 to E12, the last three on both buses and at two offsets; the edges
+-- that it names as rows 13 to 19; a shorter upload over a longer one as row 20; the edges of the sizes (numbers 2 and 4) as rows 21 to 29.
 use mathlib.Core.Bool.{Bool, false, cond}
 use mathlib.Core.List.{List, [], _∷_, _++_}
 use Prim.Native.Nat.{ℕ, _+_}
@@ -43,44 +43,52 @@ built bus M S O hardware serial = record {
   serial = serial;
 }
 
--- for E10 to E12 and the edges: S = 128, M = 256, on I²C
+-- for E10 to E12: S = 128, M = 256, on a bus, with O
+abbrev pub exampleAt : Bus → ℕ → Profile
+exampleAt bus O = built bus 256 128 O 1 []
+
+-- for the edges: on I²C, the working flash at the start of the lent one
 abbrev pub exampleBoard : Profile
-exampleBoard = built I2c 256 128 0 1 []
+exampleBoard = exampleAt I2c 0
+
+-- a lent flash around a working flash: bytes 0x33 before O, and as many 0x44 behind O + S
+abbrev pub lent : Profile → List ℕ → List ℕ
+lent p working = replicate (p .offset) 0x33 ++ (working ++ replicate (p .offset) 0x44)
 
 -- a request to an address, after what a call left
-unfoldable pub sentTo : ℕ → Called → ℕ → List ℕ → Called
-sentTo address c code arguments = received exampleBoard (c .state) address (request I2c address code arguments) (c .flash) 256
+unfoldable pub sentTo : Profile → ℕ → Called → ℕ → List ℕ → Called
+sentTo p address c code arguments = received p (c .state) address (request (p .bus) address code arguments) (c .flash) 256
 
 -- n bytes b written at 0
-abbrev pub filled : Called → ℕ → ℕ → Called
-filled c n b = sentTo 8 c 0x06 (0 ∷ 0 ∷ replicate n b)
+abbrev pub filled : Profile → Called → ℕ → ℕ → Called
+filled p c n b = sentTo p 8 c 0x06 (0 ∷ 0 ∷ replicate n b)
 
 -- one byte b written at an address below 256
-abbrev pub byteAt : Called → ℕ → ℕ → Called
-byteAt c address b = sentTo 8 c 0x06 (0 ∷ address ∷ b ∷ [])
+abbrev pub byteAt : Profile → Called → ℕ → ℕ → Called
+byteAt p c address b = sentTo p 8 c 0x06 (0 ∷ address ∷ b ∷ [])
 
 -- a finalize
-abbrev pub closed : Called → Called
-closed c = sentTo 8 c 0x07 []
+abbrev pub closed : Profile → Called → Called
+closed p c = sentTo p 8 c 0x07 []
 
--- the fresh board, flash all 0xFF
-abbrev pub blank : Called
-blank = nothing fresh (replicate 128 0xFF)
+-- the fresh board, working flash all 0xFF
+abbrev pub blank : Profile → Called
+blank p = nothing fresh (lent p (replicate 128 0xFF))
 
 -- E10's write, and its finalize
-unfoldable pub seventy : Called
-seventy = filled blank 70 0x11
+unfoldable pub seventy : Profile → Called
+seventy p = filled p (blank p) 70 0x11
 
-unfoldable pub uploaded : Called
-uploaded = closed seventy
+unfoldable pub uploaded : Profile → Called
+uploaded p = closed p (seventy p)
 
 -- the flash filled to its end
 unfoldable pub full : Called
-full = filled blank 128 0x11
+full = filled exampleBoard (blank exampleBoard) 128 0x11
 
 -- one byte more than that
 unfoldable pub over : Called
-over = filled blank 129 0x11
+over = filled exampleBoard (blank exampleBoard) 129 0x11
 
 -- a fresh board built so, with flash and reply buffer long enough: 0, or the number that refuses it
 abbrev pub refusedAs : Profile → ℕ
@@ -103,6 +111,34 @@ givenTo p s = refusal p s 128 256
 abbrev pub countAfter : Called → ℕ
 countAfter c = c .state .upload .count
 
+-- E11's upload and E12's, up to their finalizes
+unfoldable pub repeated : Profile → Called
+repeated p = closed p (filled p (uploaded p) 70 0x11)
+
+unfoldable pub extended : Profile → Called
+extended p = closed p (byteAt p (uploaded p) 70 0x22)
+
+-- E10 to E12 on a board, with the replies to their finalizes, whose counts are 2, 0 and 3
+unfoldable pub uploadRows : Profile → List ℕ → List ℕ → List ℕ → List Row
+uploadRows p two zero three =
+    -- E10: 70 bytes 0x11 from 0 on: count 1, w = 6
+    row 10 (countAfter (seventy p) ∷ length (seventy p .state .upload .waiting) ∷ []) (1 ∷ 6 ∷ [])
+    -- finalize: count 2
+    ∷ row 10 (countAfter (uploaded p) ∷ uploaded p .reply) (2 ∷ two)
+    -- bytes 70 to 127 still 0xFF, and those outside the working flash as they were
+    ∷ row 10 (uploaded p .flash) (lent p (replicate 70 0x11 ++ replicate 58 0xFF))
+    -- E11: the same upload again, count 0
+    ∷ row 11 (countAfter (repeated p) ∷ repeated p .reply) (0 ∷ zero)
+    ∷ row 11 (repeated p .flash) (lent p (replicate 70 0x11 ++ replicate 58 0xFF))
+    -- E12: E10, then byte 0x22 at 70 and a finalize: count 3
+    ∷ row 12 (countAfter (extended p) ∷ extended p .reply) (3 ∷ three)
+    ∷ row 12 (extended p .flash) (lent p (replicate 70 0x11 ++ 0x22 ∷ replicate 57 0xFF))
+    ∷ []
+
+-- at O = 0, and with the working flash amid the lent one
+abbrev pub offsetRows : Bus → List ℕ → List ℕ → List ℕ → List Row
+offsetRows bus two zero three = uploadRows (exampleAt bus 0) two zero three ++ uploadRows (exampleAt bus 192) two zero three
+
 unfoldable pub rows : List Row
 rows =
     -- E1 I²C version request
@@ -123,30 +159,27 @@ rows =
     ∷ row 8 (resetFrame Rs485) (0x00 ∷ 0x46 ∷ 0x80 ∷ 0x42 ∷ [])
     -- E9 reset address
     ∷ row 9 (resetAddressFrame Rs485) (0x00 ∷ 0x44 ∷ 0x01 ∷ 0x83 ∷ [])
-    -- E10: 70 bytes 0x11 from 0 on: count 1, w = 6
-    ∷ row 10 (countAfter seventy ∷ length (seventy .state .upload .waiting) ∷ []) (1 ∷ 6 ∷ [])
-    -- finalize: count 2, I²C answer 00 02 00 02 09
-    ∷ row 10 (countAfter uploaded ∷ uploaded .reply) (2 ∷ 0x00 ∷ 0x02 ∷ 0x00 ∷ 0x02 ∷ 0x09 ∷ [])
-    -- bytes 70 to 127 still 0xFF
-    ∷ row 10 (drop 70 (uploaded .flash)) (replicate 58 0xFF)
-    -- E11: the same upload again, count 0
-    ∷ row 11 (countAfter (closed (filled uploaded 70 0x11)) ∷ []) (0 ∷ [])
-    -- E12: E10, then byte 0x22 at 70 and a finalize: count 3
-    ∷ row 12 (countAfter (closed (byteAt uploaded 70 0x22)) ∷ []) (3 ∷ [])
+    -- E10 to E12 on I²C
+    ∷ offsetRows I2c (0x00 ∷ 0x02 ∷ 0x00 ∷ 0x02 ∷ 0x09 ∷ []) (0x00 ∷ 0x02 ∷ 0x00 ∷ 0x00 ∷ 0x07 ∷ [])
+    (0x00 ∷ 0x02 ∷ 0x00 ∷ 0x03 ∷ 0x0E ∷ [])
+    -- and on RS485
+    ++ offsetRows Rs485 (0x08 ∷ 0x00 ∷ 0x02 ∷ 0x00 ∷ 0x02 ∷ 0xE5 ∷ 0xC0 ∷ []) (0x08 ∷ 0x00 ∷ 0x02 ∷ 0x00 ∷ 0x00 ∷ 0x64 ∷ 0x01 ∷ [])
+    (0x08 ∷ 0x00 ∷ 0x02 ∷ 0x00 ∷ 0x03 ∷ 0x24 ∷ 0x00 ∷ [])
     -- edges: write ending at S, and at S + 1
-    ∷ row 13 (full .state .upload .next ∷ full .reply) (128 ∷ 0x00 ∷ 0x00 ∷ 0xD7 ∷ [])
+    ++ row 13 (full .state .upload .next ∷ full .reply) (128 ∷ 0x00 ∷ 0x00 ∷ 0xD7 ∷ [])
     ∷ row 14 (over .state .upload .next ∷ over .reply) (0 ∷ 0x05 ∷ 0x00 ∷ 0x96 ∷ [])
     -- empty write at next = S
-    ∷ row 15 (sentTo 8 full 0x06 (0 ∷ 128 ∷ []) .reply) (0x00 ∷ 0x00 ∷ 0xD7 ∷ [])
+    ∷ row 15 (sentTo exampleBoard 8 full 0x06 (0 ∷ 128 ∷ []) .reply) (0x00 ∷ 0x00 ∷ 0xD7 ∷ [])
     -- frame of M bytes, which S is too short for, and of M + 1 bytes
-    ∷ row 16 (filled blank 252 0x11 .reply) (0x05 ∷ 0x00 ∷ 0x96 ∷ [])
-    ∷ row 17 (filled blank 253 0x11 .reply) (0x03 ∷ 0x00 ∷ 0xE8 ∷ [])
+    ∷ row 16 (filled exampleBoard (blank exampleBoard) 252 0x11 .reply) (0x05 ∷ 0x00 ∷ 0x96 ∷ [])
+    ∷ row 17 (filled exampleBoard (blank exampleBoard) 253 0x11 .reply) (0x03 ∷ 0x00 ∷ 0xE8 ∷ [])
     -- finalize twice
-    ∷ row 18 (closed uploaded .reply) (0x00 ∷ 0x02 ∷ 0x00 ∷ 0x02 ∷ 0x09 ∷ [])
+    ∷ row 18 (closed exampleBoard (uploaded exampleBoard) .reply) (0x00 ∷ 0x02 ∷ 0x00 ∷ 0x02 ∷ 0x09 ∷ [])
     -- the default range ends at 15
-    ∷ row 19 (sentTo 15 blank 0x07 [] .number ∷ sentTo 16 blank 0x07 [] .number ∷ []) (0 ∷ 1 ∷ [])
+    ∷ row 19 (sentTo exampleBoard 15 (blank exampleBoard) 0x07 [] .number ∷ sentTo exampleBoard 16 (blank exampleBoard) 0x07 [] .number
+    ∷ []) (0 ∷ 1 ∷ [])
     -- one byte over that upload, finalized: the page's other bytes stay, those before the upload's end too
-    ∷ row 20 (take 70 (closed (filled uploaded 1 0x22) .flash)) (0x22 ∷ replicate 69 0x11)
+    ∷ row 20 (take 70 (closed exampleBoard (filled exampleBoard (uploaded exampleBoard) 1 0x22) .flash)) (0x22 ∷ replicate 69 0x11)
     -- number 2: M of 31, 32, 256, 257
     ∷ row 21 (refusedAs (built I2c 31 128 0 1 []) ∷ refusedAs (built I2c 32 128 0 1 []) ∷ refusedAs (built Rs485 256 128 0 1 [])
     ∷ refusedAs (built Rs485 257 128 0 1 []) ∷ []) (2 ∷ 0 ∷ 0 ∷ 2 ∷ [])

@@ -1,7 +1,8 @@
 -- Document 01, "Numbers that calls answer": the number and the values of each case of an answer, and the order of 2 to 5.
-use mathlib.Core.Bool.{Bool, cond, not}
+use mathlib.Core.Path.{_≡_}
+use mathlib.Core.Bool.{Bool, true, cond, not}
 use mathlib.Core.List.{List, _++_}
-use Prim.Native.Nat.{ℕ, _+_}
+use Prim.Native.Nat.{ℕ, _+_, _≤_}
 use lib.Dec.{ltb}
 use lib.ListN.{length, drop}
 use Rattle.rules.specs.declared.kinds.Outcome.{Outcome}
@@ -47,3 +48,10 @@ refusal p s flashLength bufferLength =
     (cond (flashShort p flashLength) 3
     (cond (not (wellFormed p s)) 4
     (cond (bufferShort p bufferLength) 5 0)))
+
+-- none of 2 to 5 applies
+pub record Unrefused (p : Profile) (s : State) (flashLength bufferLength : ℕ) : Type 0 where
+  pub in-range : inRange p ≡ true
+  pub flash-holds : p .offset + p .size ≤ flashLength
+  pub well-formed : wellFormed p s ≡ true
+  pub buffer-holds : p .longest ≤ bufferLength

@@ -9,7 +9,8 @@ use Rattle.rules.specs.State as rules
 use Rattle.rules.specs.Responses.{Response, Reply, NoReply}
 use Rattle.rules.specs.Commands.{executed}
 use Rattle.laws.proofs.CommandLaws as laws
-use Rattle.laws.proofs.StateLaws.{Unrefused}
+use Rattle.rules.specs.Numbers.{Unrefused}
+use Rattle.laws.proofs.StateLaws.{unrefused-profile, unrefused-state}
 use Rattle.response.specs.declared.Response as response
 use Rattle.response.specs.Done.{counted}
 use Rattle.answer.specs.Answered.{Fits}
@@ -24,7 +25,8 @@ pub fits-served : (p : Profile) (s : rules.State) (code : ℕ) (args d : List �
     → (r : response.Response)
     → r ≡ counted (executed p s code args d .response) → Fits (p .bus) k r
 fits-served p s code args d n m k unrefused flash buffer r e =
+    let profile = unrefused-profile unrefused in
     let formed-result =
-    laws.executed-formed-result p (unrefused .profile) s (unrefused .state .upload) d (omega (arith, unrefused .flash-holds)) code args in
-    rw e (fits-counted p k (executed p s code args d .response) (unrefused .profile .longest-most)
+    laws.executed-formed-result p profile s (unrefused-state unrefused .upload) d (omega (arith, unrefused .flash-holds)) code args in
+    rw e (fits-counted p k (executed p s code args d .response) (profile .longest-most)
     (omega (arith, unrefused .buffer-holds)) (formed-result .fits))

@@ -10,11 +10,11 @@ use state::State;
 ghost use mathlib.Core.Path.{_≡_};
 ghost use Prim.Native.Nat.{_≤_};
 ghost use lib.ListN.{length};
+ghost use Rattle.rules.specs.Numbers.{Unrefused};
 ghost use Rattle.rules.specs.Frames as frames;
 ghost use Rattle.rules.specs.Frames.{shortestRequest, commandOf, argumentsOf};
 ghost use Rattle.rules.specs.Commands.{executed};
 ghost use Rattle.rules.specs.Board.{finishedCall};
-ghost use Rattle.laws.proofs.StateLaws as laws;
 ghost use Rattle.state.specs.View.{view};
 ghost use Rattle.profile.specs.View.{profileOf};
 ghost use Rattle.answer.specs.Answered.{callEffect, expectedEffect};
@@ -28,7 +28,7 @@ pub fn serve(
     flash: &mut [u8],
     out: &mut [u8],
 ) -> Answer
-    requires { ⌜ laws.Unrefused (profileOf p) (view s) (length (now flash)) (length (now out)) ⌝ }
+    requires { ⌜ Unrefused (profileOf p) (view s) (length (now flash)) (length (now out)) ⌝ }
     requires { ⌜ shortestRequest (p .bus) ≤ length (now frame) ⌝ }
     ensures { λ r.
         ⌜ callEffect r (now (flash .exit)) (now (out .exit))

@@ -10,7 +10,7 @@ use Rattle.rules.specs.State as rules
 use Rattle.rules.specs.State.{uploadFormed}
 use Rattle.rules.specs.Commands.{accepted, restarted}
 use Rattle.laws.proofs.TestLaws.{&&-true}
-use Rattle.laws.proofs.StateLaws.{uploadFormed-facts, facts-uploadFormed}
+use Rattle.laws.proofs.StateLaws.{uploadFormed-facts, facts-uploadFormed, unrefused-profile, unrefused-state}
 use Rattle.state.specs.declared.State.{State}
 use Rattle.state.specs.declared.Upload.{Upload}
 use Rattle.state.specs.View.{uploadOf}
@@ -21,7 +21,7 @@ use Rattle.commit.specs.Progress.{Ready, Formed}
 
 module _ (p : Profile) (s : State) (n m at : ℕ) (serving : Serving p s n m at) where
   pub upload-formed : uploadFormed (profileOf p .page) (p .size) (uploadOf (s .upload)) ≡ true
-  upload-formed = facts-uploadFormed (profileOf p .page) (p .size) (uploadOf (s .upload)) (serving .unrefused .state .upload)
+  upload-formed = facts-uploadFormed (profileOf p .page) (p .size) (uploadOf (s .upload)) (unrefused-state (serving .unrefused) .upload)
 
   -- an upload that is formed goes on
   pub ready : (u : Upload) → uploadFormed (profileOf p .page) (p .size) (uploadOf u) ≡ true → Ready p u n
@@ -31,7 +31,7 @@ module _ (p : Profile) (s : State) (n m at : ℕ) (serving : Serving p s n m at)
   pub count-most : (u : Upload) (next : ℕ) → Formed p u next → u .count ≤ 65535
   count-most u next formed =
       let f = uploadFormed-facts (profileOf p .page) (p .size) (uploadOf u) (formed .formed) in
-      omega (arith, f .count-most, f .next-most, serving .unrefused .profile .size-most)
+      omega (arith, f .count-most, f .next-most, unrefused-profile (serving .unrefused) .size-most)
 
 -- an upload that begins anew, or goes on, is formed
 pub restarted-formed : (P S a : ℕ) (u : rules.Upload) → uploadFormed P S u ≡ true → uploadFormed P S (restarted a u) ≡ true

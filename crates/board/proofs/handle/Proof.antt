@@ -1,7 +1,9 @@
 -- `board::handle` meets its contract: each arm is the rules' case for that verdict.
 use Rattle.board.proofs.HandleLaws.{command-long}
 use Rattle.rules.specs.Board.{handled}
+use Rattle.laws.proofs.StateLaws.{unrefused-profile}
 use mathlib.Core.Path.{refl, sym, _∙_}
+use native.Mathlib.Omega.{arith}
 use borrow.Author.Needs.{needs}
 use Rattle.board.proofs.handle.Statement.{statement}
 use Rattle.board.proofs.handle.Tie as tie
@@ -40,7 +42,9 @@ destination-requires : tie.Need-destination-requires
 destination-requires c κs = search needs
 
 fault-requires : tie.Need-fault-requires
-fault-requires c κs = search needs
+fault-requires c κs =
+    let st = c .before .before .before .before .before .before .before .before in
+    omega (arith, unrefused-profile (st .pre) .longest-least, st .pre .buffer-holds)
 
 enum-told-5 : tie.Need-enum-told-5
 enum-told-5 c = search needs
@@ -49,7 +53,9 @@ destination-requires-2 : tie.Need-destination-requires-2
 destination-requires-2 c κs = search needs
 
 fault-requires-2 : tie.Need-fault-requires-2
-fault-requires-2 c κs = search needs
+fault-requires-2 c κs =
+    let st = c .before .before .before .before .before .before .before .before in
+    omega (arith, unrefused-profile (st .pre) .longest-least, st .pre .buffer-holds)
 
 enum-told-6 : tie.Need-enum-told-6
 enum-told-6 c = search needs

@@ -29,7 +29,7 @@ returns c =
     let out = st .args .out .now in
     let r = check-refused p s (length d) (length out) _ (sym (f .refuse .ensures) ∙ k .check .given .1) in
     rw (received-refused p s d (st .args .address) (st .args .frame .now) (length out) (eqb-false _ 0 (r .not-zero)))
-    (record { called = rw (r .numbered, r .none-made); untouched = λ two. refl })
+    (record { answered = record { called = rw (r .numbered, r .none-made); untouched = λ two. refl }; ignored-kept = λ i. refl })
 
 enum-told : tie.Need-enum-told
 enum-told c = search needs

@@ -47,7 +47,7 @@ returns c =
     (number .board-number .ensures)
     (made .reply-length .ensures)
     (args .frame .now)
-    (received .receive .ensures)
+    (received .receive .ensures .answered)
     (c .if1 .taken)
 
 normalize-requires : tie.Need-normalize-requires
@@ -84,7 +84,7 @@ returns-2 c =
     (number .board-number .ensures)
     (made .reply-length .ensures)
     (args .frame .now)
-    (received .receive .ensures)
+    (received .receive .ensures .answered)
     (tested .if1 .left)
     (normalized .normalize .ensures)
     (written .state-to .ensures)

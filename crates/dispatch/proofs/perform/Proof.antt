@@ -1,7 +1,7 @@
 -- `dispatch::perform` meets its contract: each arm is the definition's case for that code.
 use Rattle.dispatch.proofs.Laws.{set-address-arguments, write-arguments, read-arguments}
 use Rattle.response.proofs.Laws.{few-fit}
-use Rattle.laws.proofs.StateLaws.{length-used}
+use Rattle.laws.proofs.StateLaws.{unrefused-profile, length-used}
 use Rattle.rules.specs.Commands.{performed}
 use borrow.Author.Tests.{ne-eqb}
 use lib.ListN.{length}
@@ -25,7 +25,7 @@ set-address-requires c κs =
 hardware-info-requires : tie.Need-hardware-info-requires
 hardware-info-requires c κs =
     let st = c .before .before .before .before .before in (
-      omega (arith, st .pre .0 .unrefused .profile .size-most),
+      omega (arith, unrefused-profile (st .pre .0 .unrefused) .size-most),
       few-fit (st .args .p) (st .args .s) _ _ (st .args .at) 5 (st .pre .0) (omega arith),
     )
 
@@ -33,7 +33,7 @@ serial-requires : tie.Need-serial-requires
 serial-requires c κs =
     let st = c .before .before .before .before .before in
     let p = st .args .p in (
-      omega (arith, st .pre .0 .unrefused .profile .serial-most, length-used (p .seriallen) (p .serial)),
+      omega (arith, unrefused-profile (st .pre .0 .unrefused) .serial-most, length-used (p .seriallen) (p .serial)),
       few-fit (st .args .p) (st .args .s) _ _ (st .args .at) 16 (st .pre .0) (omega arith),
     )
 
@@ -61,7 +61,7 @@ revision-requires c κs =
 reply-number-requires : tie.Need-reply-number-requires
 reply-number-requires c κs =
     let st = c .before .before .before .before .before in (
-      omega (arith, st .pre .0 .unrefused .profile .longest-most),
+      omega (arith, unrefused-profile (st .pre .0 .unrefused) .longest-most),
       few-fit (st .args .p) (st .args .s) _ _ (st .args .at) 2 (st .pre .0) (omega arith),
     )
 

@@ -1,4 +1,5 @@
 -- `read_query::read` meets its contract: its two tests are `readable`, and the part of flash that it lays over the buffer is the one asked.
+use Rattle.laws.proofs.StateLaws.{unrefused-profile}
 use Rattle.response.proofs.Laws.{few-fit, results-fit}
 use Rattle.rules.specs.Commands.{shown}
 use Rattle.rules.specs.Frames.{shortestReply, numberAt}
@@ -47,7 +48,8 @@ returns c =
     rw (lt-leb _ _ over) (c .before .before .reply .ensures (st .args .flash .now))
 
 longest-results-requires : tie.Need-longest-results-requires
-longest-results-requires c κs = search needs
+longest-results-requires c κs =
+    unrefused-profile (c .before .before .before .before .before .before .before .before .pre .0 .unrefused) .longest-least
 
 slice-aggregate-reply-2 : tie.Need-slice-aggregate-reply-2
 slice-aggregate-reply-2 c = search needs

@@ -1,13 +1,12 @@
 -- `readout::read` meets its contract: refused by the first of 2 to 5 that applies with all untouched, else the last reply.
-use Rattle.laws.proofs.StateLaws.{Unrefused}
 use Rattle.rules.specs.State.{used}
-use Rattle.rules.specs.Numbers.{laid, refusal}
+use Rattle.rules.specs.Numbers.{laid, refusal, Unrefused}
 use Rattle.answer.proofs.AnsweredLaws.{answered}
 use Rattle.refusal.proofs.Laws.{check-passed, check-refused}
 use Rattle.profile.specs.View.{profileOf}
 use Rattle.state.specs.View.{view}
 use Rattle.rules.specs.Board.{readAnswered}
-use Rattle.laws.proofs.StateLaws.{refusal-unrefused, used-take, length-used}
+use Rattle.laws.proofs.StateLaws.{refusal-unrefused, unrefused-profile, unrefused-state, used-take, length-used}
 use Rattle.rules.specs.Board.{readOut}
 use Rattle.rules.specs.Bytes.{overlay}
 use borrow.Author.Tests.{eqb-false, eq-eqb, not-true, not-false}
@@ -38,7 +37,7 @@ returns c =
     let s = view (st .args .s) in
     let r =
     check-refused p s (length (st .args .flash .now)) (length (st .args .out .now)) _ (sym (f .refuse .ensures) ∙ k .check .given .1) in
-    rw (r .not-zero) (record { called = rw (r .numbered, r .none-made); untouched = λ two. refl })
+    rw (r .not-zero) (record { called = rw (r .numbered, r .none-made); state-is = refl })
 
 enum-told : tie.Need-enum-told
 enum-told c = search needs
@@ -66,7 +65,7 @@ returns-2 c =
       not-true (t .before .read-answered .result) (t .if1 .taken),
       c .no-reply .ensures,
     )
-    (record { called = refl; untouched = λ two. refl })
+    (record { called = refl; state-is = refl })
 
 -- none of 2 to 5 applies where the last reply is handed out, and its buffer is whole
 none : (c : tie.After-store-arg)
@@ -94,7 +93,7 @@ last-most : (c : tie.After-store-arg)
     .before .before .before .before .before .args .p .longest
 last-most c =
     let s = c .before .before .before .before .before .before .before .before .before .args .s in
-    omega (arith, unrefused c .state .reply .last-most, length-used (s .last .len) (s .last .bytes))
+    omega (arith, unrefused-state (unrefused c) .reply .last-most, length-used (s .last .len) (s .last .bytes))
 
 whole : (c : tie.Start) → length (c .args .s .last .bytes) ≡ 256
 whole c = search needs
@@ -102,7 +101,7 @@ whole c = search needs
 full : (c : tie.After-store-arg) → (length
     (c .before .before .before .before .before .before .before .before .before .args .s .last .bytes) ≡ 256)
     × (c .before .before .before .before .before .before .before .before .before .args .p .longest ≤ 256)
-full c = (whole (c .before .before .before .before .before .before .before .before .before), unrefused c .profile .longest-most)
+full c = (whole (c .before .before .before .before .before .before .before .before .before), unrefused-profile (unrefused c) .longest-most)
 
 array-share-prefix-bytes : tie.Need-array-share-prefix-bytes
 array-share-prefix-bytes c =
@@ -138,7 +137,7 @@ returns-3 c =
     let laid-is : c .before .before .store .last .0 ≡ laid (used n bytes) out =
     c .before .before .store .ensures ∙ rw (used-take n bytes fits, zero-add) in
     rw (eq-eqb _ _ (none a), ← r .read-answered .ensures, not-false (r .read-answered .result) (e .if1 .left))
-    (record { called = rw (laid-is, length-used n bytes); untouched = λ two. refl })
+    (record { called = rw (laid-is, length-used n bytes); state-is = refl })
 
 pub read-spec : {M : Type 1} → statement M
 read-spec =

@@ -1,6 +1,7 @@
 -- `script_call::call` meets its contract: the contract of `board::receive` for kind 0, else that of `readout::read`.
 use borrow.Author.Needs.{needs}
 use borrow.Author.Tests.{eq-eqb, ne-eqb}
+use Rattle.answer.proofs.AnsweredLaws.{read-answered}
 use Rattle.script_call.proofs.call.Statement.{statement}
 use Rattle.script_call.proofs.call.Tie as tie
 
@@ -21,7 +22,7 @@ returns c =
     let call = c .before .before .before .before in
     let test = call .before .before .before in
     let kind = test .before .before .before .before .args .kind in
-    rw (eq-eqb kind 0 (test .if1 .taken)) (call .receive .ensures)
+    rw (eq-eqb kind 0 (test .if1 .taken)) (call .receive .ensures .answered)
 
 same-length-3 : tie.Need-same-length-3
 same-length-3 c = search needs
@@ -34,7 +35,7 @@ returns-2 c =
     let call = c .before .before in
     let test = call .before .before .before in
     let kind = test .before .before .before .before .args .kind in
-    rw (ne-eqb kind 0 (test .if1 .left)) (call .read .ensures)
+    rw (ne-eqb kind 0 (test .if1 .left)) (read-answered (call .read .ensures))
 
 pub call-spec : {M : Type 1} → statement M
 call-spec =
