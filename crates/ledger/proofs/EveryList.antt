@@ -46,8 +46,8 @@ keeps-good p x s i count closes = record {
   right = record {
     flash-is = i .flash-is;
     count-is = count ∙ i .count-is;
-    count-bytes = omega (arith, i .balanced .count-le, i .balanced .committed-le);
-    count-pages = i .balanced .pages-le;
+    count-bytes = omega (arith, count, i .count-is, i .balanced .count-le, i .balanced .committed-le);
+    count-pages = rw (count, i .count-is) (i .balanced .pages-le);
     finished = λ e. closed-finished p s (i .flash-is) (i .balanced) (closes e);
   };
   balanced = i .balanced;

@@ -72,9 +72,9 @@ pub record Right (p : Profile) (s : Step) : Type 0 where
   -- the state's count is the ledger's count
   pub count-is : s .count ≡ s .ledger .count
   -- it is at most n
-  pub count-bytes : s .ledger .count ≤ length (s .ledger .accepted)
+  pub count-bytes : s .count ≤ length (s .ledger .accepted)
   -- and at most the number of whole pages in n, plus f
-  pub count-pages : s .ledger .count ≤ length (s .ledger .accepted) / p .page + s .ledger .finals
+  pub count-pages : s .count ≤ length (s .ledger .accepted) / p .page + s .ledger .finals
   pub finished : finalizeStep p s ≡ true → Finished p s
 
 abbrev pub Every : (Step → Type 0) → List Step → Type 0

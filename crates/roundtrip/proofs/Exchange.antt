@@ -3,10 +3,10 @@
 -- address.
 use mathlib.Core.Path.{_≡_, refl, sym, subst, _∙_}
 use mathlib.Core.Bool.{true}
-use mathlib.Core.List.{List}
+use mathlib.Core.List.{List, [], _∷_}
 use Prim.Native.Nat.{ℕ}
 use native.Mathlib.Omega.{arith}
-use lib.ListN.{length, getD}
+use lib.ListN.{length, drop, getD}
 use Rattle.rules.specs.declared.kinds.Bus.{Bus}
 use Rattle.rules.specs.declared.kinds.Bus.the-variants.{I2c, Rs485}
 use Rattle.rules.specs.State.{Upload, withUpload}
@@ -22,7 +22,7 @@ use Rattle.roundtrip.specs.Sending.{Sending, Given, Beside, AddressedBy,
 use Rattle.roundtrip.specs.Sending.{instruction}
 use Rattle.roundtrip.specs.Understood.{TakenAs, Understood}
 use Rattle.roundtrip.specs.ReadBack.{Answered, ResponseRead, Replied}
-use Rattle.roundtrip.specs.Exchanges.{Line, Board, Ready, Message, sending, fetched, answer, after, codeSent, lengthSent, results, Ok}
+use Rattle.roundtrip.specs.Exchanges.{Line, Board, Ready, Message, sending, fetched, answer, after, results, Ok}
 use Rattle.roundtrip.proofs.Requests.{given-understood}
 use Rattle.roundtrip.proofs.Replies.{withReply-running, withReply-address, replies-read}
 
@@ -42,22 +42,19 @@ module _ (l : Line) (b : Board) (ready : Ready l b) (m : Message) where
   abbrev x : Sending
   x = sending l b m
 
-  abbrev code : ℕ
-  code = codeSent (m .request)
-
   unrefused : Unrefused (l .profile) (b .state) (length (b .flash)) (l .buffer)
   unrefused = refusal-unrefused (l .profile) (b .state) (length (b .flash)) (l .buffer) (ready .none-refused)
 
   orderly : FormedCall (l .profile) (b .flash) (call x)
   orderly = received-formed-call (l .profile) (b .state) (b .flash) (l .to) (frame x) (l .buffer) (unrefused .well-formed)
 
-  module _ (arguments said : List ℕ) (u : Upload) (d : List ℕ) (made : encoding x .number ≡ 0) (taken : TakenAs x code arguments)
-      (replying : ResponseRead x code arguments (lengthSent (m .request))
+  module _ (code : ℕ) (arguments said : List ℕ) (u : Upload) (d : List ℕ) (made : encoding x .number ≡ 0) (taken : TakenAs x code arguments)
+      (replying : ResponseRead x code arguments (getD arguments 2 0)
       (performed (l .profile) (b .state) code arguments (b .flash) .response))
       (acts : performed (l .profile) (b .state) code arguments (b .flash)
       ≡ record { response = Reply ok said; state = withUpload (b .state) u; flash = d }) where
-    answered : Answered x code arguments (lengthSent (m .request)) ok said
-    answered = subst (λ (a : Acted). ResponseRead x code arguments (lengthSent (m .request)) (a .response)) acts replying
+    answered : Answered x code arguments (getD arguments 2 0) ok said
+    answered = subst (λ (a : Acted). ResponseRead x code arguments (getD arguments 2 0) (a .response)) acts replying
 
     abbrev sent : List ℕ
     sent = reply (bus x) (l .to) ok said
@@ -93,18 +90,18 @@ module _ (l : Line) (b : Board) (ready : Ready l b) (m : Message) where
       answered-ok =
           record {
             made = made;
-            decodes = rw (answer-call, answered .reads .decoding-is);
+            decodes = rw (answer-call, taken .command-is, taken .arguments-are, answered .reads .decoding-is);
             status-ok =
-                rw (answer-call, answered .reads .decoding-is);
+                rw (answer-call, taken .command-is, taken .arguments-are, answered .reads .decoding-is);
           };
-      results-are = rw answer-call (answered .reads .results-are);
+      results-are = rw (answer-call, taken .command-is, taken .arguments-are) (answered .reads .results-are);
       upload-is = rw (answer-call, called) (withReply-upload (bus x) (withUpload (b .state) u) sent);
       flash-is = rw (answer-call, called);
       ready = left-ready;
     }
 
-  given : encoding x .number ≡ 0 → (arguments : List ℕ) → instruction x ≡ Commands code arguments → Given x
-  given made arguments is = record {
+  given : encoding x .number ≡ 0 → (code : ℕ) (arguments : List ℕ) → instruction x ≡ Commands code arguments → Given x
+  given made code arguments is = record {
     made = made;
     sent = subst (λ (a : Instruction). Beside (bus x) (l .to) (target (l .to) a)) (sym is) (beside-self (bus x) (l .to));
     none-refused = ready .none-refused;
@@ -112,12 +109,12 @@ module _ (l : Line) (b : Board) (ready : Ready l b) (m : Message) where
   }
 
   -- a command that answers OK, and keeps address and running
-  pub exchange : (arguments said : List ℕ) (u : Upload) (d : List ℕ) → encoding x .number ≡ 0 → instruction x ≡ Commands code arguments
-      → (code ≡ 0x08 → lengthSent (m .request) ≡ getD arguments 2 0)
+  pub exchange : (code : ℕ) (arguments said : List ℕ) (u : Upload) (d : List ℕ) → encoding x .number ≡ 0 → instruction x ≡ Commands code arguments
+      → (code ≡ 0x08 → drop 2 arguments ≡ getD arguments 2 0 ∷ [])
       → performed (l .profile) (b .state) code arguments (b .flash)
       ≡ record { response = Reply ok said; state = withUpload (b .state) u; flash = d }
       → Exchanged l x u d said
-  exchange arguments said u d made is read-length acts =
-      let all : Given x = given made arguments is in
-      exchanged arguments said u d made (subst (Understood x) is (given-understood x all))
-      (subst (Replied x) is (replies-read x all) (lengthSent (m .request)) read-length) acts
+  exchange code arguments said u d made is read-length acts =
+      let all : Given x = given made code arguments is in
+      exchanged code arguments said u d made (subst (Understood x) is (given-understood x all))
+      (subst (Replied x) is (replies-read x all) (getD arguments 2 0) read-length) acts

@@ -3,6 +3,7 @@ pub mod Requests
 pub mod Responded
 pub mod Replies
 pub mod Exchange
+pub mod Longest
 pub mod Encodes
 pub mod Written
 pub mod Shown

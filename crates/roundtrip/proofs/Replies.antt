@@ -2,12 +2,13 @@
 -- whole reply just its status and results (`FrameLaws`). On I²C the reply is the last reply of the state that the call leaves.
 use mathlib.Core.Path.{_≡_, refl, sym, ap, subst, _∙_}
 use mathlib.Core.Bool.{true, false}
-use mathlib.Core.List.{List, [], _++_, append-nil}
+use mathlib.Core.List.{List, [], _∷_, _++_, append-nil}
 use Prim.Native.Nat.{ℕ, _≤_, _<_}
 use native.Mathlib.Omega.{arith}
 use native.Mathlib.Nat.{mod-eq-of-lt}
 use lib.Dec.{eqb}
-use lib.ListN.{length, getD}
+use lib.ListN.{length, drop, getD}
+use lib.Seq.{getD-drop}
 use borrow.Author.Tests.{eqb-true, eqb-false, eq-eqb, ne-eqb, lt-ltb, ltb-false}
 use Rattle.rules.specs.declared.kinds.Bus.{Bus}
 use Rattle.rules.specs.declared.kinds.Bus.the-variants.{I2c, Rs485}
@@ -17,7 +18,7 @@ use Rattle.rules.specs.State.{State}
 use Rattle.rules.specs.Numbers.{refusal, Unrefused}
 use Rattle.rules.specs.Frames.{shortestReply, reply, addressed}
 use Rattle.rules.specs.Responses.{Response, Reply, NoReply, Acted}
-use Rattle.rules.specs.Commands.{addressTaken, setAddress, performed, served}
+use Rattle.rules.specs.Commands.{addressTaken, setAddress, performed, tabled, served, lengthAllowed}
 use Rattle.rules.specs.Board.{Called, withReply, readAnswered, readOut}
 use Rattle.rules.specs.Master.{Instruction, Commands, AddressReset, BoardReset}
 use Rattle.rules.specs.Master.{resultsMissing, decodedRead, resultsIn, resultBytes, whichRead, addressOver}
@@ -112,6 +113,16 @@ performed-setAddress : (p : Profile) (s : State) (args d : List ℕ) → perform
 unfolding performed
 performed-setAddress p s args d = refl
 
+-- where a board is addressed next: a set address has its address byte
+next-set : (to : ℕ) (arguments : List ℕ) → lengthAllowed 0x01 (length arguments) ≡ true → addressedNext to 0x01 arguments ≡ getD arguments 0 0
+unfolding tabled
+next-set to [] long = cc
+next-set to (a ∷ arguments) long = refl
+
+next-kept : (to code : ℕ) (arguments : List ℕ) → eqb code 0x01 ≡ false → addressedNext to code arguments ≡ to
+next-kept to code [] e = refl
+next-kept to code (a ∷ arguments) e = rw e
+
 module _ (x : Sending) (given : Given x) (code : ℕ) (arguments : List ℕ) (taken : TakenAs x code arguments) where
   abbrev act : Acted
   act = performed (x .profile) (x .state) code arguments (x .flash)
@@ -177,17 +188,17 @@ module _ (x : Sending) (given : Given x) (code : ℕ) (arguments : List ℕ) (ta
           }
 
       next-addressed : addressed (bus x) (x .state .address) (x .to) ≡ true
-          → (code ≡ 0x01 → addressOver (bus x) (getD arguments 0 0) ≡ false)
+          → (code ≡ 0x01 → addressOver (bus x) (getD arguments 0 0) ≡ false) → lengthAllowed code (length arguments) ≡ true
           → (addressedNext (x .to) code arguments ≡ 0 → ⊥)
           → addressed (bus x) (call x .state .address) (addressedNext (x .to) code arguments) ≡ true
-      next-addressed heard fits some =
+      next-addressed heard fits long some =
           by-test (eqb code 0x01)
           (λ e.
           let is : code ≡ 0x01 = eqb-true code 0x01 e in
           let own : act .state .address ≡ Own (addressTaken (bus x) (getD arguments 0 0)) = moved is said in
-          let at : addressedNext (x .to) code arguments ≡ getD arguments 0 0 = rw e in
+          let at : addressedNext (x .to) code arguments ≡ getD arguments 0 0 = rw is (next-set (x .to) arguments (rw is at long)) in
           rw (left-address, own, at) (taken-addressed (bus x) (getD arguments 0 0) (fits is) (λ z. some (at ∙ z))))
-          (λ e. rw (left-address, responding .address-kept (eqb-false code 0x01 e), e) heard)
+          (λ e. rw (left-address, responding .address-kept (eqb-false code 0x01 e), next-kept (x .to) code arguments e) heard)
         where
           moved : code ≡ 0x01 → act .response ≡ Reply status results → act .state .address ≡ Own (addressTaken (bus x) (getD arguments 0 0))
           moved is said =
@@ -219,15 +230,20 @@ module _ (x : Sending) (given : Given x) (code : ℕ) (arguments : List ℕ) (ta
         read-out = read-out x given code arguments taken asked status results said (allowed .is-served) (heard .0) responding;
         next-addressed =
             next-addressed x given code arguments taken asked status results said (allowed .is-served) (heard .0) responding (heard .1)
-            address-fits;
+            address-fits (allowed .length-allowed);
       }
   replying-by NoReply said = ap (λ (c : Called). c .number) (taken .call-is) ∙ rw said
+
+-- the third of three bytes
+third : (l : List ℕ) (n : ℕ) → drop 2 l ≡ n ∷ [] → n ≡ getD l 2 0
+third l n e = sym (ap (λ (k : List ℕ). getD k 0 0) e) ∙ getD-drop 2 l 0 0
 
 replied : (x : Sending) → Given x → (a : Instruction) → Understood x a → AllowedBy (bus x) (x .profile .longest) (x .to) a
     → NewAddress (bus x) a
     → AddressedBy (x .profile) (x .state) (x .to) a → Replied x a
 replied x given (Commands code arguments) taken allowed fits heard =
-    λ asked read-length. replying-by x given code arguments taken allowed fits heard asked read-length _ refl
+    λ asked read-length.
+    replying-by x given code arguments taken allowed fits heard asked (λ is. third arguments asked (read-length is)) _ refl
 replied x given AddressReset taken allowed fits heard = ap (λ (c : Called). c .number) (taken .1)
 replied x given BoardReset taken allowed fits heard = ap (λ (c : Called). c .number) (taken .1)
 

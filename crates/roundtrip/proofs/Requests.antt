@@ -149,7 +149,7 @@ understood x BoardReset form allowed sent none heard = reset x none form sent
 carried : (b : Bus) (r : Request) (to : ℕ) (bytes : List ℕ)
     → Carried r bytes (argumentsOf b (instructionBytes b to (instructionOf r bytes)))
 carried b (Plain code) to bytes = argumentsOf-request b to code []
-carried b (SetAddress address hardware) to bytes = rw (argumentsOf-request b to 0x01 (address ∷ hardware ∷ [])) (refl, refl)
+carried b (SetAddress address hardware) to bytes = argumentsOf-request b to 0x01 (address ∷ hardware ∷ [])
 carried b (Write address) to bytes = rw (argumentsOf-request b to 0x06 (twoBytes address ++ bytes)) (div-add-mod' address 256, refl)
 carried b (Read address n) to bytes = rw (argumentsOf-request b to 0x08 (twoBytes address ++ n ∷ [])) (div-add-mod' address 256, refl)
 carried b ResetAddress to bytes = tt

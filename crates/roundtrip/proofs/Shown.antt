@@ -19,7 +19,8 @@ use Rattle.laws.proofs.StateLaws.{ProfileFacts, refusal-unrefused, unrefused-pr
 use Rattle.laws.proofs.OverlayLaws.{part-overlay}
 use Rattle.roundtrip.specs.Sending.{Sending}
 use Rattle.roundtrip.specs.Exchanges.{Line, Board, Ready, sending, after, exchanges, EachOk, allResults}
-use Rattle.roundtrip.specs.UploadRoundtrip.{total, EachMost, resultsMost, reads}
+use Rattle.roundtrip.specs.UploadRoundtrip.{total, EachMost, reads}
+use Rattle.roundtrip.specs.Longest.{resultsMost}
 use Rattle.roundtrip.proofs.Exchange.{Exchanged, exchange}
 use Rattle.roundtrip.proofs.Encodes.{read-made}
 
@@ -45,7 +46,7 @@ module _ (l : Line) (d image : List ℕ) (fits : length image ≤ l .profile .si
     read-exchanged =
         let part : take n (drop (l .profile .offset + at) (b .flash)) ≡ take n (drop at image) =
         rw stands (part-overlay d (l .profile .offset) image (omega arith) at n within) in
-        exchange l b ready (record { request = Read at n; bytes = [] }) (twoBytes at ++ n ∷ []) (take n (drop at image))
+        exchange l b ready (record { request = Read at n; bytes = [] }) 0x08 (twoBytes at ++ n ∷ []) (take n (drop at image))
         (b .state .upload) (b .flash)
         (read-made l b ready at (omega (arith, facts .size-most)) n most) refl (λ e. refl)
         (shown-part (l .profile) (b .state) at n (b .flash) (omega arith) most ∙ ap (replying (b .state) (b .flash) ok) part)

@@ -41,7 +41,7 @@ module _ (l : Line) (d image : List ℕ) (some : 1 ≤ length image) (b : Board)
   pub finalize-exchanged : Exchanged l (sending l b finalize) (g .upload) (g .flash) (twoBytes (g .upload .count))
   unfolding performed finished
   finalize-exchanged =
-      exchange l b (going .ready) finalize [] (twoBytes (g .upload .count)) (g .upload) (g .flash) (finalize-made l b (going .ready))
+      exchange l b (going .ready) finalize 0x07 [] (twoBytes (g .upload .count)) (g .upload) (g .flash) (finalize-made l b (going .ready))
       refl (λ e. absurd (omega arith))
       (rw standing)
 

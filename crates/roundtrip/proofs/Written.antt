@@ -23,7 +23,8 @@ use Rattle.laws.proofs.UploadLaws.{next-takenAll}
 use Rattle.laws.proofs.StateLaws.{ProfileFacts, refusal-unrefused, unrefused-profile}
 use Rattle.laws.proofs.ImageLaws.{begins}
 use Rattle.roundtrip.specs.Exchanges.{Line, Board, Ready, Message, sending, after, exchanges, left, EachOk}
-use Rattle.roundtrip.specs.UploadRoundtrip.{total, EachMost, dataMost, writes}
+use Rattle.roundtrip.specs.UploadRoundtrip.{total, EachMost, writes}
+use Rattle.roundtrip.specs.Longest.{dataMost}
 use Rattle.roundtrip.proofs.Exchange.{Exchanged, exchange}
 use Rattle.roundtrip.proofs.Encodes.{write-made}
 
@@ -82,7 +83,7 @@ module _ (l : Line) (d : List ℕ) where
 
     write-exchanged : Exchanged l (sending l b write) (g .upload) (g .flash) []
     write-exchanged =
-        exchange l b (going .ready) write (twoBytes (length front) ++ bytes) [] (g .upload) (g .flash)
+        exchange l b (going .ready) write 0x06 (twoBytes (length front) ++ bytes) [] (g .upload) (g .flash)
         (write-made l b (going .ready) (length front) (omega (arith, facts .size-most)) bytes most) refl (λ e. absurd (omega arith))
         (written-accepted (l .profile) (b .state) (length front) bytes (b .flash) next-is fits)
 

@@ -3,19 +3,18 @@ use mathlib.Core.Path.{_≡_}
 use mathlib.Core.Bool.{true, false}
 use mathlib.Core.List.{List, [], _∷_, _++_}
 use Prim.Native.Nat.{ℕ, _≤_}
-use lib.ListN.{length}
+use lib.ListN.{length, getD}
 use Rattle.rules.specs.declared.kinds.Bus.{Bus}
 use Rattle.rules.specs.declared.kinds.Bus.the-variants.{I2c, Rs485}
 use Rattle.rules.specs.declared.requests.Request.{Request}
-use Rattle.rules.specs.declared.requests.Request.the-variants.{Plain, SetAddress, Write, Read, ResetAddress, Reset}
 use Rattle.rules.specs.Profile.{Profile}
 use Rattle.rules.specs.State.{State}
 use Rattle.rules.specs.Numbers.{refusal}
-use Rattle.rules.specs.Frames.{addressed}
+use Rattle.rules.specs.Frames.{addressed, commandOf, argumentsOf}
 use Rattle.rules.specs.Responses.{ok}
 use Rattle.rules.specs.Board.{Called, readOut}
-use Rattle.rules.specs.Master.{Instruction, Commands, AddressReset, BoardReset, Decoding, instructionOf, decoded, resultsIn}
-use Rattle.roundtrip.specs.Sending.{Sending, bus, encoding, call}
+use Rattle.rules.specs.Master.{Decoding, decoded, resultsIn}
+use Rattle.roundtrip.specs.Sending.{Sending, bus, encoding, frame, call}
 
 -- one board on a bus: its profile, the address that the master sends to, and how long the buffers of both sides are
 pub record Line : Type 0 where
@@ -65,26 +64,9 @@ answer x = fetched (bus x) x
 abbrev pub after : Sending → Board
 after x = record { state = answer x .state; flash = answer x .flash }
 
--- the command that the master sent, and the length that its read asks for
-abbrev pub codeIn : Instruction → ℕ
-codeIn (Commands code arguments) = code
-codeIn AddressReset = 0
-codeIn BoardReset = 0
-
-abbrev pub codeSent : Request → ℕ
-codeSent r = codeIn (instructionOf r [])
-
-abbrev pub lengthSent : Request → ℕ
-lengthSent (Plain code) = 0
-lengthSent (SetAddress address hardware) = 0
-lengthSent (Write address) = 0
-lengthSent (Read address n) = n
-lengthSent ResetAddress = 0
-lengthSent Reset = 0
-
--- what the master reads
+-- what the master reads: the decoder gets the command of the frame that was sent, and its third argument byte, of a read the length asked
 abbrev pub decoding : Sending → Decoding
-decoding x = decoded (bus x) (codeSent (x .request)) (x .to) (lengthSent (x .request)) (answer x .reply)
+decoding x = decoded (bus x) (commandOf (bus x) (frame x)) (x .to) (getD (argumentsOf (bus x) (frame x)) 2 0) (answer x .reply)
 
 abbrev pub results : Sending → List ℕ
 results x = resultsIn (decoding x) (answer x .reply)

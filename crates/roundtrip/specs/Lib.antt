@@ -3,4 +3,5 @@ pub mod Sending
 pub mod Understood
 pub mod ReadBack
 pub mod Exchanges
+pub mod Longest
 pub mod UploadRoundtrip

@@ -1,10 +1,10 @@
 -- What the board answers is what the master reads.
 use mathlib.Core.Path.{_≡_}
 use mathlib.Core.Bool.{true, cond}
-use mathlib.Core.List.{List, _++_}
+use mathlib.Core.List.{List, [], _∷_, _++_}
 use Prim.Native.Nat.{ℕ, _+_, _≤_}
 use lib.Dec.{eqb}
-use lib.ListN.{length, getD}
+use lib.ListN.{length, drop}
 use Rattle.rules.specs.declared.kinds.Bus.{Bus}
 use Rattle.rules.specs.declared.kinds.Bus.the-variants.{I2c}
 use Rattle.rules.specs.Frames.{headerLength, addressed}
@@ -27,7 +27,8 @@ pub record TwoReads (code asked : ℕ) (first second : List ℕ) (which : ℕ) (
 
 -- where a board that replied is addressed next: at the destination as before, after set address at the new address
 abbrev pub addressedNext : ℕ → ℕ → List ℕ → ℕ
-addressedNext to code arguments = cond (eqb code 0x01) (getD arguments 0 0) to
+addressedNext to code [] = to
+addressedNext to code (a ∷ arguments) = cond (eqb code 0x01) a to
 
 -- a reply on I²C, which the master gets by reads; its read may be longer than the reply
 pub record ReadOut (x : Sending) (code asked status : ℕ) (results : List ℕ) : Type 0 where
@@ -58,7 +59,7 @@ ResponseRead x code arguments asked NoReply = call x .number ≡ 1
 -- the decoder gets the length that a read asks for
 abbrev pub Replied : Sending → Instruction → Type 0
 Replied x (Commands code arguments) =
-    (asked : ℕ) → (code ≡ 0x08 → asked ≡ getD arguments 2 0)
+    (asked : ℕ) → (code ≡ 0x08 → drop 2 arguments ≡ asked ∷ [])
     → ResponseRead x code arguments asked (performed (x .profile) (x .state) code arguments (x .flash) .response)
 Replied x AddressReset = call x .number ≡ 1
 Replied x BoardReset = call x .number ≡ 1

@@ -1,8 +1,8 @@
 -- What the master asks is what the board does.
 use mathlib.Core.Path.{_≡_}
-use mathlib.Core.List.{List, []}
+use mathlib.Core.List.{List, [], _∷_}
 use Prim.Native.Nat.{ℕ}
-use lib.ListN.{drop, getD}
+use lib.ListN.{drop}
 use Rattle.rules.specs.declared.kinds.Verdict.{Verdict}
 use Rattle.rules.specs.declared.kinds.Verdict.the-variants as verdicts
 use Rattle.rules.specs.declared.requests.Request.{Request}
@@ -34,9 +34,9 @@ Understood x BoardReset = (verdictOn x ≡ verdicts.Reset) × (call x ≡ nothin
 -- the arguments, as the command's rule reads them, are the request's
 abbrev pub Carried : Request → List ℕ → List ℕ → Type 0
 Carried (Plain code) bytes arguments = arguments ≡ []
-Carried (SetAddress address hardware) bytes arguments = (getD arguments 0 0 ≡ address) × (getD arguments 1 0 ≡ hardware)
+Carried (SetAddress address hardware) bytes arguments = arguments ≡ address ∷ hardware ∷ []
 Carried (Write address) bytes arguments = (numberAt arguments 0 ≡ address) × (drop 2 arguments ≡ bytes)
-Carried (Read address n) bytes arguments = (numberAt arguments 0 ≡ address) × (getD arguments 2 0 ≡ n)
+Carried (Read address n) bytes arguments = (numberAt arguments 0 ≡ address) × (drop 2 arguments ≡ n ∷ [])
 Carried ResetAddress bytes arguments = Unit
 Carried Reset bytes arguments = Unit
 

@@ -2,13 +2,13 @@
 use mathlib.Core.Path.{_≡_}
 use mathlib.Core.Logic.{_⊎_}
 use mathlib.Core.List.{List, [], _∷_}
-use Prim.Native.Nat.{ℕ, _+_, _-_, _≤_, _<_}
+use Prim.Native.Nat.{ℕ, _+_, _≤_, _<_}
 use lib.ListN.{length, take, drop, getD}
-use Rattle.rules.specs.declared.kinds.Bus.{Bus}
 use Rattle.rules.specs.declared.requests.Request.the-variants.{Plain, Write, Read}
 use Rattle.rules.specs.Bytes.{overlay}
-use Rattle.rules.specs.Frames.{shortestRequest, shortestReply, numberAt}
+use Rattle.rules.specs.Frames.{numberAt}
 use Rattle.roundtrip.specs.Sending.{Sending}
+use Rattle.roundtrip.specs.Longest.{dataMost, resultsMost}
 use Rattle.roundtrip.specs.Exchanges.{Line, Board, Message, Ready, sending, after, exchanges, left, Ok, EachOk, results, allResults}
 
 -- a list of lengths that are each at most so many and add up to n
@@ -23,13 +23,6 @@ EachMost most (k ∷ ks) = (k ≤ most) × EachMost most ks
 pub record Plan (most n : ℕ) (lengths : List ℕ) : Type 0 where
   pub each : EachMost most lengths
   pub whole : total lengths ≡ n
-
--- the longest data of a write, M - 4 on I²C and M - 6 on RS485, and the longest results of a read
-abbrev pub dataMost : Bus → ℕ → ℕ
-dataMost bus M = M - (shortestRequest bus + 2)
-
-abbrev pub resultsMost : Bus → ℕ → ℕ
-resultsMost bus M = M - shortestReply bus
 
 -- an image is written from a place on, in frames of these data lengths
 abbrev pub writes : ℕ → List ℕ → List ℕ → List Message

@@ -6,7 +6,7 @@ use Prim.Native.Nat.{ℕ, suc, _+_, _-_, _%_}
 use lib.Dec.{eqb, ltb}
 use lib.ListN.{length, take, set, getD, replicate}
 use Rattle.rules.specs.Profile.{Profile}
-use Rattle.rules.specs.State.{State, Upload, withRunning, withUpload}
+use Rattle.rules.specs.State.{State, Upload, fresh, withRunning, withUpload}
 use Rattle.rules.specs.CheckSums.{sumRight}
 use Rattle.rules.specs.Frames.{destination, ignored, isCommand, commandOf, argumentsOf, numberAt, twoBytes}
 use Rattle.rules.specs.Commit.{Progress, committed, finalized}
@@ -123,13 +123,13 @@ changesReply code change =
     let r : Reaction State = calls p s d c in
     record { number = r .number; reply = cond (asks p c code) (change (r .reply)) (r .reply); state = r .state; flash = r .flash })
 
--- one whose I²C reads always answer 1
-abbrev pub silentReads : Profile → State → List ℕ → Call → Reaction State
-silentReads p s d (Frame a f n) = calls p s d (Frame a f n)
-silentReads p s d (Read a n) = record { number = 1; reply = []; state = s; flash = d }
+-- one whose I²C reads always answer this number, with the last reply changed
+abbrev pub readsBy : ℕ → (List ℕ → List ℕ) → Profile → State → List ℕ → Call → Reaction State
+readsBy number change p s d (Frame a f n) = calls p s d (Frame a f n)
+readsBy number change p s d (Read a n) = record { number = number; reply = change (s .last); state = s; flash = d }
 
-abbrev pub readsNothing : Board
-readsNothing = boardBy silentReads
+abbrev pub readsAs : ℕ → (List ℕ → List ℕ) → Board
+readsAs number change = boardBy (readsBy number change)
 
 -- one that obeys foreign writes and finalizes: a frame that is to be ignored is executed if its check sum is right
 abbrev pub obeysForeign : Board
@@ -179,10 +179,37 @@ erasingReads p s d (Read a n) =
 abbrev pub readsErase : Board
 readsErase = boardBy erasingReads
 
--- one whose finalize writes the byte behind the working flash
-abbrev pub writesOutside : Board
-writesOutside =
+-- one that changes flash at a command
+abbrev pub changesFlash : ℕ → (Profile → List ℕ → List ℕ) → Board
+changesFlash code change =
     boardBy (λ p s d c.
     let r : Reaction State = calls p s d c in
-    let written : List ℕ = set (r .flash) (p .offset + p .size) 1 in
-    record { number = r .number; reply = r .reply; state = r .state; flash = cond (asks p c 0x07) written (r .flash) })
+    record { number = r .number; reply = r .reply; state = r .state; flash = cond (asks p c code) (change p (r .flash)) (r .flash) })
+
+-- its finalize writes the byte behind the working flash
+abbrev pub writesOutside : Board
+writesOutside = changesFlash 0x07 (λ p d. set d (p .offset + p .size) 1)
+
+-- one byte more flash after a command
+abbrev pub growsFlash : ℕ → Board
+growsFlash code = changesFlash code (λ p d. d ++ 0 ∷ [])
+
+-- one that erases flash while it is running
+abbrev pub erasesRunning : Board
+erasesRunning =
+    boardBy (λ p s d c.
+    let r : Reaction State = calls p s d c in
+    record { number = r .number; reply = r .reply; state = r .state; flash = cond (s .running) [] (r .flash) })
+
+-- one that shows another count than its state has
+abbrev pub showsCount : (State → ℕ) → Board
+showsCount count = record { Kept = State; fresh = fresh; count = count; call = calls }
+
+-- one that counts writes, refused ones too
+abbrev pub countsWrites : Board
+countsWrites =
+    ruledBy (λ p s code args d.
+    let a : Acted = executed p s code args d in
+    let u : Upload = a .state .upload in
+    let counted : Upload = record { next = u .next; waiting = u .waiting; count = suc (u .count) } in
+    cond (eqb code 0x06) (record { response = a .response; state = withUpload (a .state) counted; flash = a .flash }) a)

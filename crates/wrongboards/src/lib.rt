@@ -1,6 +1,6 @@
 // Boards that are right but for one error, and the demand that refuses each. The functions do nothing.
-ghost use mathlib.Core.List.{List};
-ghost use Prim.Native.Nat.{ℕ};
+ghost use mathlib.Core.List.{List, []};
+ghost use Prim.Native.Nat.{ℕ, suc};
 ghost use lib.ListN.{set};
 ghost use Rattle.ledger.specs.Claim.{Demand3};
 ghost use Rattle.demands.specs.Acceptance.{Demand2};
@@ -9,9 +9,9 @@ ghost use Rattle.demands.specs.Replies.{EveryReply};
 ghost use Rattle.wrongboards.specs.Variations.{VariedRight};
 ghost use Rattle.wrongboards.specs.WrongBoards.{refusesWrites, okToAll, runsAfterWrite, keepsFlash, firstPageOnly, inventsCount};
 ghost use Rattle.wrongboards.specs.WrongBoards.{fixedReply, padsLastPage, takesHalf, invalidCrcSent, countsUnchanged};
-ghost use Rattle.wrongboards.specs.WrongBoards.{finalizesOnStart, refusesFinalizes, changesReply, readsNothing, obeysForeign};
+ghost use Rattle.wrongboards.specs.WrongBoards.{finalizesOnStart, refusesFinalizes, changesReply, readsAs, obeysForeign};
 ghost use Rattle.wrongboards.specs.WrongBoards.{ignoresStart, takesForeignType, silentFaults, answersWrong, refusedErases};
-ghost use Rattle.wrongboards.specs.WrongBoards.{readsErase, writesOutside};
+ghost use Rattle.wrongboards.specs.WrongBoards.{readsErase, writesOutside, growsFlash, erasesRunning, showsCount, countsWrites};
 
 // The variations that the wrong boards are made by are right themselves: with the rules' own parts they are the board of the rules.
 pub fn varied_right()
@@ -90,7 +90,7 @@ pub fn wrong_finalize_reply()
 
 // I²C reads that always answer 1: demand 2, a read hands out the last reply.
 pub fn reads_nothing()
-    ensures { λ _. ⌜ (Demand2 readsNothing → ⊥) ⌝ }
+    ensures { λ _. ⌜ (Demand2 (readsAs 1 (λ l. [])) → ⊥) ⌝ }
 {}
 
 // Foreign writes and finalizes that are obeyed: demand 1, a foreign frame leaves flash as it was.
@@ -132,4 +132,32 @@ pub fn reads_erase()
 // A byte written outside the working flash: demand 3, those never change.
 pub fn writes_outside()
     ensures { λ _. ⌜ (Demand3 writesOutside → ⊥) ⌝ }
+{}
+
+// I²C reads that answer always, also with no last reply: demand 2, in any other case a read answers 1; and reads that hand out no byte of
+// it: the last reply is handed out.
+pub fn reads_wrong()
+    ensures { λ _. ⌜ (Demand2 (readsAs 0 (λ l. l)) → ⊥) × (Demand2 (readsAs 0 (λ l. [])) → ⊥) ⌝ }
+{}
+
+// Flash erased while running: demand 2, after start nothing is changed.
+pub fn erases_running()
+    ensures { λ _. ⌜ (Demand2 erasesRunning → ⊥) ⌝ }
+{}
+
+// A refused write that is counted: demand 2, it leaves the count as it was.
+pub fn counts_writes()
+    ensures { λ _. ⌜ (Demand2 countsWrites → ⊥) ⌝ }
+{}
+
+// A byte more flash, after a finalize and after a version request: demand 3, the length stays.
+pub fn grows_flash()
+    ensures { λ _. ⌜ (Demand3 (growsFlash 0x07) → ⊥) × (Demand3 (growsFlash 0x00) → ⊥) ⌝ }
+{}
+
+// A state that shows no count, one more than the bytes, or the bytes: demand 3, the count is the ledger's, at most n, and at most the whole
+// pages plus f.
+pub fn shows_other_count()
+    ensures { λ _. ⌜ (Demand3 (showsCount (λ s. 0)) → ⊥) × (Demand3 (showsCount (λ s. suc (s .upload .next))) → ⊥)
+        × (Demand3 (showsCount (λ s. s .upload .next)) → ⊥) ⌝ }
 {}

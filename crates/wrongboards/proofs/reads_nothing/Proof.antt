@@ -7,13 +7,13 @@ use lib.ListN.{getD, set}
 use Rattle.rules.specs.declared.kinds.Bus.the-variants.{I2c}
 use Rattle.demands.specs.Acceptance.{Demand2}
 use Rattle.ledger.specs.Calls.{Read}
-use Rattle.wrongboards.specs.WrongBoards.{readsNothing}
+use Rattle.wrongboards.specs.WrongBoards.{readsAs}
 use Rattle.wrongboards.proofs.Computing.{computing}
 use Rattle.wrongboards.proofs.Cases.{small, zeros, sent, room, buffer}
 use Rattle.wrongboards.proofs.reads_nothing.Statement.{statement}
 use Rattle.wrongboards.proofs.reads_nothing.Tie as tie
 
-refused : Demand2 readsNothing → ⊥
+refused : Demand2 (readsAs 1 (λ l. [])) → ⊥
 unfolding computing
 refused h =
     let right = h (small I2c 64) (zeros 64) (sent I2c 0x00 [] ∷ Read 8 128 ∷ []) refl room in
