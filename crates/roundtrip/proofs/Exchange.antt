@@ -109,7 +109,8 @@ module _ (l : Line) (b : Board) (ready : Ready l b) (m : Message) where
   }
 
   -- a command that answers OK, and keeps address and running
-  pub exchange : (code : ℕ) (arguments said : List ℕ) (u : Upload) (d : List ℕ) → encoding x .number ≡ 0 → instruction x ≡ Commands code arguments
+  pub exchange : (code : ℕ) (arguments said : List ℕ) (u : Upload) (d : List ℕ) → encoding x .number ≡ 0
+      → instruction x ≡ Commands code arguments
       → (code ≡ 0x08 → drop 2 arguments ≡ getD arguments 2 0 ∷ [])
       → performed (l .profile) (b .state) code arguments (b .flash)
       ≡ record { response = Reply ok said; state = withUpload (b .state) u; flash = d }

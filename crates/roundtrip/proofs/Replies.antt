@@ -114,7 +114,8 @@ unfolding performed
 performed-setAddress p s args d = refl
 
 -- where a board is addressed next: a set address has its address byte
-next-set : (to : ℕ) (arguments : List ℕ) → lengthAllowed 0x01 (length arguments) ≡ true → addressedNext to 0x01 arguments ≡ getD arguments 0 0
+next-set : (to : ℕ) (arguments : List ℕ) → lengthAllowed 0x01 (length arguments) ≡ true
+    → addressedNext to 0x01 arguments ≡ getD arguments 0 0
 unfolding tabled
 next-set to [] long = cc
 next-set to (a ∷ arguments) long = refl

@@ -57,7 +57,8 @@ upload-roundtrip l b image plan ready some fits planned =
       finalize-ok = last .answered-ok;
       count-read = rw (last .results-are, last .upload-is) (div-add-mod' _ 256);
       image-stands = stands;
-      others-kept = λ i other. rw stands (getD-overlay-outside (b .flash) (l .profile .offset) image (omega (arith, unrefused .flash-holds)) i other);
+      others-kept = λ i other.
+          rw stands (getD-overlay-outside (b .flash) (l .profile .offset) image (omega (arith, unrefused .flash-holds)) i other);
       read-back = λ parts p.
           read-all l (b .flash) image fits (unrefused .flash-holds) parts (uploaded l b image plan) 0 (last .ready) stands (p .each)
           (omega (arith, p .whole));

@@ -1,4 +1,5 @@
--- `wrongboards::shows_other_count` meets its contract: after the byte 7 and a finalize the count is 1, not 0; after the byte 7 alone it is not 2, nor 1.
+-- `wrongboards::shows_other_count` meets its contract: after the byte 7 and a finalize the count is 1, not 0; after the byte 7 alone it is
+-- not 2, nor 1.
 use mathlib.Core.Path.{_≡_}
 use mathlib.Core.List.{[], _∷_}
 use Prim.Native.Nat.{ℕ, suc, _≤_}
