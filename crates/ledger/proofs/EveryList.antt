@@ -1,6 +1,6 @@
 -- Demand 3 of the rules' board, by induction over the list of calls: fresh state and given flash are the new ledger's, and every call keeps
 -- it so (`CallStep`). What is claimed of a step is read off there; the claim of two finalizes is the ledger's alone (`Again`).
-use mathlib.Core.Path.{_≡_, refl, sym, _∙_}
+use mathlib.Core.Path.{_≡_, refl, sym, ap, _∙_}
 use mathlib.Core.Bool.{true, false≢true}
 use mathlib.Core.List.{List, [], _∷_, _++_, append-assoc}
 use Prim.Native.Nat.{ℕ}
@@ -11,7 +11,7 @@ use Rattle.rules.specs.Commit.{OutsideKept}
 use Rattle.laws.proofs.UploadLaws.{outside-refl, outside-trans}
 use Rattle.laws.proofs.BoardLaws.{received-outside, readOut-flash}
 use Rattle.laws.proofs.OverlayLaws.{getD-overlay-inside, getD-overlay-outside, take-overlay}
-use Rattle.ledger.specs.Ledger.{Ledger, opened, replyCount}
+use Rattle.ledger.specs.Ledger.{Ledger, opened, countBytes, highLow}
 use Rattle.ledger.specs.Calls.{Call, Frame, Read, Step, calls, ruled, fed, stepped, trace}
 use Rattle.ledger.specs.Claim.{finalizeStep, AcceptedAgain, Finished, Right, Every, Demand3}
 use Rattle.ledger.proofs.Consistency.{Consistent, AfterFinalize}
@@ -123,7 +123,7 @@ after-finalize-has p k b s = record {
 again-holds : (p : Profile) (k : Ledger) (before between after : List Step) (first second : Step)
     → Every (Good p) (before ++ first ∷ between ++ second ∷ after) → Chained p k (before ++ first ∷ between ++ second ∷ after)
     → finalizeStep p first ≡ true → finalizeStep p second ≡ true → AcceptedAgain p (first .ledger .accepted) between
-    → replyCount (p .bus) (second .reply) ≡ 0
+    → countBytes (p .bus) (second .reply) ≡ highLow 0
 again-holds p k before between after first second good chain e z again =
     let rest : List Step = between ++ second ∷ after in
     let good′ = every-behind p before (first ∷ rest) (rw (append-assoc before (first ∷ between)) at good) in
@@ -132,8 +132,8 @@ again-holds p k before between after first second good chain e z again =
     let has = after-finalize-has p (first .ledger) (good′ .0 .balanced) after-finalize in
     let link = chained-behind p (first .ledger) between (second ∷ after) chain′ .0 .fed-is in
     every-behind p between (second ∷ after) (good′ .1) .0 .right .finished z .reply-count
-    ∙ again-zero p (first .ledger) between second has (after-finalize .all-committed)
-    (chained-front p (first .ledger) between (second ∷ after) chain′) again link z
+    ∙ ap highLow (again-zero p (first .ledger) between second has (after-finalize .all-committed)
+    (chained-front p (first .ledger) between (second ∷ after) chain′) again link z)
 
 pub demand3 : Demand3 ruled
 demand3 p d cs =

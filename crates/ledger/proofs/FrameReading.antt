@@ -18,7 +18,7 @@ use Rattle.rules.specs.CheckSums.{bit, byte, run, sum, sealed, unsealed}
 use Rattle.rules.specs.Frames.{reply, twoBytes, numberAt, commandOf, argumentsOf, isGeneral, resetFrame}
 use Rattle.laws.proofs.BytesLaws.{drop-take}
 use Rattle.laws.proofs.TestLaws.{&&-true}
-use Rattle.ledger.specs.Ledger.{Ledger, opened, writes, finalizes, entered, offsets, writeAddress, writeData, replyCount, resetForm}
+use Rattle.ledger.specs.Ledger.{Ledger, opened, writes, finalizes, entered, offsets, writeAddress, writeData, countBytes, highLow, resetForm}
 use Rattle.ledger.specs.Ledger.{isFinalize, answeredOk}
 
 -- the reset
@@ -58,10 +58,10 @@ unfolding reply sealed
 reply-status I2c address status results = refl
 reply-status Rs485 address status results = refl
 
-pub reply-count : (bus : Bus) (address status n : ℕ) → replyCount bus (reply bus address status (twoBytes n)) ≡ n
+pub reply-count : (bus : Bus) (address status n : ℕ) → countBytes bus (reply bus address status (twoBytes n)) ≡ highLow n
 unfolding reply sealed
-reply-count I2c address status n = div-add-mod' n 256
-reply-count Rs485 address status n = div-add-mod' n 256
+reply-count I2c address status n = refl
+reply-count Rs485 address status n = refl
 
 command-is : (bus : Bus) (f : List ℕ) → getD f (offsets bus .command) 0 ≡ commandOf bus f
 command-is I2c f = refl

@@ -18,7 +18,7 @@ use Rattle.rules.specs.Frames.{commandOf}
 use Rattle.rules.specs.Responses.{Reply, NoReply}
 use Rattle.rules.specs.Board.{Called, nothing, withReply, replied, refused}
 use Rattle.ledger.specs.Ledger.{Ledger, opened, entered, resetForm, isWrite, isFinalize, answeredOk}
-use Rattle.ledger.specs.Ledger.{offsets, writeAddress, replyCount}
+use Rattle.ledger.specs.Ledger.{offsets, writeAddress, countBytes, highLow}
 use Rattle.ledger.proofs.LedgerLaws.{rest}
 use Rattle.ledger.proofs.Consistency.{Consistent, opened-consistent, AfterFinalize}
 use Rattle.ledger.proofs.FrameReading.{answered-reply, entered-refused, entered-nothing, entered-reset, entered-reply}
@@ -48,7 +48,7 @@ keeps-last Rs485 p s d k r i = keeps-other p s d k (s .address) [] i
 
 -- what a finalize's reply and the ledger after it have to say
 pub record Closed (p : Profile) (k : Ledger) (r : List ℕ) : Type 0 where
-  pub count-replied : replyCount (p .bus) r ≡ k .count
+  pub count-replied : countBytes (p .bus) r ≡ highLow (k .count)
   pub after-finalize : AfterFinalize p k
 
 -- an accepted write is at 0 or where the accepted bytes end

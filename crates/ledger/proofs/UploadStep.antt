@@ -20,6 +20,7 @@ use Rattle.rules.specs.Numbers.{Unrefused}
 use Rattle.laws.proofs.StateLaws.{unrefused-profile, unrefused-state}
 use Rattle.laws.proofs.TestLaws.{by-test, &&-true}
 use Rattle.ledger.specs.Ledger.{Ledger, opened, writes, joinsAll, finalizes, entered, writeAddress, writeData}
+use Rattle.ledger.specs.Ledger.{highLow}
 use Rattle.ledger.proofs.LedgerLaws.{rest}
 use Rattle.ledger.proofs.Consistency.{Consistent, opened-consistent, finalizes-consistent, finalizes-after-finalize}
 use Rattle.ledger.proofs.CommitStep.{Agrees, Paged}
@@ -82,7 +83,7 @@ finished-enters p s d k a f address h code =
       keeps = agrees-replied p s g _ (finalizes p k) _ agrees balanced enters;
       closes = λ some. rw enters
           (record {
-            count-replied = reply-count (p .bus) address ok (g .upload .count) ∙ agrees .count-is;
+            count-replied = reply-count (p .bus) address ok (g .upload .count) ∙ ap highLow (agrees .count-is);
             after-finalize = finalizes-after-finalize p k (i .balanced .committed-le) room;
           });
       in-order =

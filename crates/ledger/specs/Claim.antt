@@ -8,7 +8,7 @@ use lib.Dec.{eqb}
 use lib.ListN.{length, getD}
 use Rattle.rules.specs.Profile.{Profile}
 use Rattle.rules.specs.Commit.{OutsideKept}
-use Rattle.ledger.specs.Ledger.{Ledger, isWrite, isFinalize, writeAddress, writeData, replyCount}
+use Rattle.ledger.specs.Ledger.{Ledger, isWrite, isFinalize, writeAddress, writeData, countBytes, highLow}
 use Rattle.ledger.specs.Calls.{Call, Frame, Read, Board, Step, traced}
 
 -- the step is an answered finalize
@@ -57,7 +57,7 @@ pub record AcceptedAgain (p : Profile) (bytes : List ℕ) (steps : List Step) : 
 -- what holds at an answered finalize: n is the number of the ledger's accepted bytes just after it, "just before" its earlier copy
 pub record Finished (p : Profile) (s : Step) : Type 0 where
   -- the reply's count is the ledger's
-  pub reply-count : replyCount (p .bus) (s .reply) ≡ s .ledger .count
+  pub reply-count : countBytes (p .bus) (s .reply) ≡ highLow (s .ledger .count)
   -- the n bytes stand in flash from zero on
   pub bytes-stand : (i : ℕ) → i < length (s .ledger .accepted) → getD (s .flash) (p .offset + i) 0 ≡ getD (s .ledger .accepted) i 0
   -- every other byte is as just before
@@ -90,7 +90,7 @@ pub record Holds (p : Profile) (d : List ℕ) (steps : List Step) : Type 0 where
   pub again :
       (before between after : List Step) (first second : Step) → steps ≡ before ++ first ∷ between ++ second ∷ after
       → finalizeStep p first ≡ true → finalizeStep p second ≡ true → AcceptedAgain p (first .ledger .accepted) between
-      → replyCount (p .bus) (second .reply) ≡ 0
+      → countBytes (p .bus) (second .reply) ≡ highLow 0
 
 -- the claim: for every list of calls from the fresh board with any flash, under any one profile
 abbrev pub Demand3 : Board → Type 0

@@ -3,7 +3,7 @@
 -- way of its own.
 use mathlib.Core.Bool.{Bool, true, false, cond, _&&_, _||_, not}
 use mathlib.Core.List.{List, [], _∷_, _++_}
-use Prim.Native.Nat.{ℕ, _+_, _-_, _*_, _%_}
+use Prim.Native.Nat.{ℕ, _+_, _-_, _*_, _/_, _%_}
 use lib.Dec.{eqb, ltb}
 use lib.ListN.{length, take, drop, getD, set}
 use Rattle.rules.specs.declared.kinds.Bus.{Bus}
@@ -113,9 +113,12 @@ writeAddress bus f = getD f (offsets bus .address) 0 * 256 + getD f (offsets bus
 abbrev pub writeData : Bus → List ℕ → List ℕ
 writeData bus f = take (length f - offsets bus .bytes - offsets bus .ending) (drop (offsets bus .bytes) f)
 
--- the count that a finalize's reply carries
-abbrev pub replyCount : Bus → List ℕ → ℕ
-replyCount bus reply = getD reply (offsets bus .command + 2) 0 * 256 + getD reply (offsets bus .command + 3) 0
+-- the two bytes of the count in a finalize's reply, and those of a number
+abbrev pub countBytes : Bus → List ℕ → List ℕ
+countBytes bus reply = take 2 (drop (offsets bus .command + 2) reply)
+
+abbrev pub highLow : ℕ → List ℕ
+highLow n = n / 256 ∷ n % 256 ∷ []
 
 -- the second general call's form: on I²C the one byte 06 at address 0, on RS485 the bytes 00 46 80 42
 abbrev pub resetForm : Bus → ℕ → List ℕ → Bool

@@ -1,5 +1,5 @@
 -- `wrongboards::counts_unchanged` meets its contract: an upload of the byte 7, made again, counts 1.
-use mathlib.Core.Path.{_≡_, refl}
+use mathlib.Core.Path.{_≡_, refl, ap}
 use mathlib.Core.List.{List, [], _∷_}
 use Prim.Native.Nat.{ℕ}
 use native.Mathlib.Omega.{arith}
@@ -30,8 +30,8 @@ unfolding computing calls steps step
 refused h =
     let holds = h (small I2c 64) (zeros 64) calls in
     let again : _≡_ {A = ℕ} 1 0 =
-    holds .again (step 0 ∷ []) (step 2 ∷ []) [] (step 1) (step 3) refl refl refl
-    (record { from-zero = refl; same-bytes = refl }) in
+    ap (λ (l : List ℕ). getD l 1 0)
+    (holds .again (step 0 ∷ []) (step 2 ∷ []) [] (step 1) (step 3) refl refl refl (record { from-zero = refl; same-bytes = refl })) in
     omega arith
 
 returns : tie.Need-returns

@@ -1,8 +1,9 @@
 -- `wrongboards::invents_count` meets its contract: a finalize of nothing says 1.
-use mathlib.Core.Path.{_≡_, refl}
-use mathlib.Core.List.{[], _∷_}
+use mathlib.Core.Path.{_≡_, refl, ap}
+use mathlib.Core.List.{List, [], _∷_}
 use Prim.Native.Nat.{ℕ}
 use native.Mathlib.Omega.{arith}
+use lib.ListN.{getD}
 use Rattle.rules.specs.declared.kinds.Bus.the-variants.{I2c}
 use Rattle.ledger.specs.Claim.{Demand3}
 use Rattle.wrongboards.specs.WrongBoards.{inventsCount}
@@ -15,7 +16,7 @@ refused : Demand3 inventsCount → ⊥
 unfolding computing
 refused h =
     let holds = h (small I2c 64) (zeros 64) (finalize I2c ∷ []) in
-    let counts : _≡_ {A = ℕ} 1 0 = holds .each .0 .finished refl .reply-count in
+    let counts : _≡_ {A = ℕ} 1 0 = ap (λ (l : List ℕ). getD l 1 0) (holds .each .0 .finished refl .reply-count) in
     omega arith
 
 returns : tie.Need-returns
