@@ -7,6 +7,7 @@ ghost use mathlib.Core.Path.{_≡_};
 ghost use Rattle.rules.specs.Master.{readNumber, resultBytes, whichRead};
 
 // The result bytes: a part of the read that decodes, of the first if both do; an empty part if neither does.
+// The contract gives the bytes and leaves open where they lie; that they are a part of that read is the form of the code (D50).
 pub fn results<'a>(code: usize, asked: usize, first: &'a [u8], second: &'a [u8]) -> &'a [u8]
     ensures { λ r. ⌜ now r ≡ resultBytes code asked (now (first .entry)) (now (second .entry)) ⌝ }
 {
