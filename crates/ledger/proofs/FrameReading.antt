@@ -18,8 +18,8 @@ use Rattle.rules.specs.CheckSums.{bit, byte, run, sum, sealed, unsealed}
 use Rattle.rules.specs.Frames.{reply, twoBytes, numberAt, commandOf, argumentsOf, isGeneral, resetFrame}
 use Rattle.laws.proofs.BytesLaws.{drop-take}
 use Rattle.laws.proofs.TestLaws.{&&-true}
-use Rattle.ledger.specs.Ledger.{Ledger, opened, writes, finalizes, entered, offsets, writeAddress, writeData, countBytes, highLow, resetForm}
-use Rattle.ledger.specs.Ledger.{isFinalize, answeredOk}
+use Rattle.ledger.specs.Ledger.{Ledger, opened, writes, finalizes, entered, offsets, writeAddress, writeData, countBytes, highLow}
+use Rattle.ledger.specs.Ledger.{resetForm, isFinalize, answeredOk}
 
 -- the reset
 

@@ -110,7 +110,7 @@ finalizesOnStart =
     let g : Progress = finalized p (record { upload = s .upload; flash = d }) in
     cond (eqb code 0x05 && eqb (length args) 0) (started (withUpload s (g .upload)) (g .flash)) (executed p s code args d))
 
--- Boards that once met all demands as they were stated
+-- Further errors, each against a clause of the demands
 
 -- one that refuses every finalize
 abbrev pub refusesFinalizes : Board
