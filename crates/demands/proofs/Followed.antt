@@ -122,10 +122,11 @@ module _ (p : Profile) (s : State) (a : ℕ) (f d : List ℕ) where
     address-followed is =
         setAddress-cases p s (argumentsOf (p .bus) f) d (Followed p s a f)
         (record {
-          taken = λ e. reply-followed _ d ok [] (after-address p (pastOf s) a f (destination (p .bus) a f) is);
           foreign = λ e.
               after-silence p (pastOf s) a f [] no-reset (rw no-address (and-false (not (s .running)))) (rw (heard, is))
               ∙ sym (pastOf-withReply (p .bus) s []);
+          refused = λ e r. refused-followed invalidArguments refl;
+          taken = λ e r. reply-followed _ d ok [] (after-address p (pastOf s) a f (destination (p .bus) a f) is);
         })
 
     start-followed : commandOf (p .bus) f ≡ 0x05 → lengthAllowed 0x05 (length (argumentsOf (p .bus) f)) ≡ true

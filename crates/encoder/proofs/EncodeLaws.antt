@@ -1,6 +1,6 @@
 -- Why the encoder may write: the numbers of a request fit their bytes where no argument is wrong; and what its answers promise.
 use mathlib.Core.Path.{_≡_, refl}
-use mathlib.Core.Bool.{true, false}
+use mathlib.Core.Bool.{true, false, _||_}
 use mathlib.Core.List.{List}
 use Prim.Native.Nat.{ℕ, _-_, _<_, _≤_}
 use native.Mathlib.Omega.{arith}
@@ -14,6 +14,7 @@ use Rattle.rules.specs.declared.requests.Encoded.{Encoded}
 use Rattle.rules.specs.declared.requests.Encoded.the-variants.{Made}
 use Rattle.rules.specs.Profile.{frameInRange}
 use Rattle.rules.specs.Frames.{shortestReply}
+use Rattle.rules.specs.Commands.{reserved}
 use Rattle.rules.specs.Master.{Encoding, encodedNumber, encodedLength, Instruction, Commands, AddressReset, BoardReset, addressOver}
 use Rattle.rules.specs.Master.{flashAddressOver, numbersWrong, unmade}
 use Rattle.laws.proofs.TestLaws.{&&-true, ||-false}
@@ -46,8 +47,8 @@ command-fits bus M destination BoardReset allowed = tt
 pub numbers-fit : (bus : Bus) (M : ℕ) (r : Request) → M ≤ 256 → numbersWrong bus M r ≡ false → NumbersFit r
 numbers-fit bus M (Plain code) most e = tt
 numbers-fit bus M (SetAddress address hardware) most e =
-    let parts = ||-false (addressOver bus address) (ltb 255 hardware) e in
-    (address-lt bus address (parts .0), omega (arith, ltb-false 255 hardware (parts .1)))
+    let parts = ||-false (addressOver bus address) (reserved bus address || ltb 255 hardware) e in
+    (address-lt bus address (parts .0), omega (arith, ltb-false 255 hardware (||-false (reserved bus address) _ (parts .1) .1)))
 numbers-fit bus M (Write address) most e = flashAddress-lt address e
 numbers-fit bus M (Read address n) most e =
     let parts = ||-false (flashAddressOver address) (ltb (M - shortestReply bus) n) e in

@@ -17,7 +17,7 @@ use Rattle.rules.specs.Frames.{reply, shortestReply, twoBytes, numberAt}
 use Rattle.rules.specs.Commit.{OutsideKept}
 use Rattle.rules.specs.Responses.{Response, Reply, NoReply, Acted, replying, ok, commandNotSupported, invalidArguments}
 use Rattle.rules.specs.Commands.{setAddress, hardwareInfo, serialNumber, started, accepted, restarted, written, finished, readable, shown}
-use Rattle.rules.specs.Commands.{addressTaken, performed, executed, tabled, lengthAllowed}
+use Rattle.rules.specs.Commands.{addressTaken, reserved, typeMatches, performed, executed, tabled, lengthAllowed}
 use Rattle.laws.proofs.StateLaws.{ProfileFacts, UploadFacts}
 use Rattle.laws.proofs.CheckSumLaws.{length-sealed}
 use Rattle.laws.proofs.SizeLaws.{shortestReply-le}
@@ -85,24 +85,28 @@ executed-cases p s (suc (suc (suc (suc (suc (suc (suc (suc (suc (suc (suc (suc (
 executed-cases p s (suc (suc (suc (suc (suc (suc (suc (suc (suc (suc (suc (suc (suc (suc zero)))))))))))))) args d P c = c .unserved
 executed-cases p s (suc (suc (suc (suc (suc (suc (suc (suc (suc (suc (suc (suc (suc (suc (suc n))))))))))))))) args d P c = c .unserved
 
--- a claim on what set address does, outcome by outcome, each with one premise
+-- a claim on what set address does, outcome by outcome, each with the tests that lead to it
 pub record Addressing (p : Profile) (s : State) (args d : List ℕ) (P : Acted → Type 0) : Type 0 where
-  pub taken : (eqb (getD args 1 0) (p .hardware) || eqb (getD args 1 0) 0) ≡ true
+  pub foreign : typeMatches p (getD args 1 0) ≡ false → P (record { response = NoReply; state = s; flash = d })
+  pub refused : typeMatches p (getD args 1 0) ≡ true → reserved (p .bus) (addressTaken (p .bus) (getD args 0 0)) ≡ true
+      → P (replying s d invalidArguments [])
+  pub taken : typeMatches p (getD args 1 0) ≡ true → reserved (p .bus) (addressTaken (p .bus) (getD args 0 0)) ≡ false
       → P (replying (withAddress s (Own (addressTaken (p .bus) (getD args 0 0)))) d ok [])
-  pub foreign : (eqb (getD args 1 0) (p .hardware) || eqb (getD args 1 0) 0) ≡ false
-      → P (record { response = NoReply; state = s; flash = d })
 
--- each outcome, for code that made the same test
+-- each outcome, for code that made the same tests
 pub setAddress-outcomes : (p : Profile) (s : State) (args d : List ℕ) → Addressing p s args d (λ a. setAddress p s args d ≡ a)
 unfolding setAddress
-setAddress-outcomes p s args d = record { taken = λ e. rw e; foreign = λ e. rw e }
+setAddress-outcomes p s args d = record { foreign = λ e. rw e; refused = λ e r. rw (e, r); taken = λ e r. rw (e, r) }
 
 pub setAddress-cases : (p : Profile) (s : State) (args d : List ℕ) (P : Acted → Type 0) → Addressing p s args d P
     → P (setAddress p s args d)
 setAddress-cases p s args d P c =
     let outcomes = setAddress-outcomes p s args d in
-    by-test (eqb (getD args 1 0) (p .hardware) || eqb (getD args 1 0) 0)
-    (λ e. rw (outcomes .taken e) (c .taken e))
+    by-test (typeMatches p (getD args 1 0))
+    (λ e.
+    by-test (reserved (p .bus) (addressTaken (p .bus) (getD args 0 0)))
+    (λ r. rw (outcomes .refused e r) (c .refused e r))
+    (λ r. rw (outcomes .taken e r) (c .taken e r)))
     (λ e. rw (outcomes .foreign e) (c .foreign e))
 
 -- an accepted write goes on, or begins anew, just at its address
@@ -127,9 +131,10 @@ module _ (p : Profile) (facts : ProfileFacts p) (s : State) (formed : UploadFact
   setAddress-formed-result args =
       setAddress-cases p s args d (FormedResult p d)
       (record {
-        taken = λ e.
-            record { formed = formed; outside = outside-refl p d; fits = omega (arith, shortestReply-le (p .bus), facts .longest-least) };
         foreign = λ e. record { formed = formed; outside = outside-refl p d; fits = tt };
+        refused = λ e r. replying-formed-result invalidArguments [] (omega arith);
+        taken = λ e r.
+            record { formed = formed; outside = outside-refl p d; fits = omega (arith, shortestReply-le (p .bus), facts .longest-least) };
       })
 
   serialNumber-formed-result : FormedResult p d (serialNumber p s d)

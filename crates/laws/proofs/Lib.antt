@@ -8,6 +8,7 @@ pub mod StateLaws
 pub mod LaidLaws
 pub mod UploadLaws
 pub mod CommandLaws
+pub mod AddressLaws
 pub mod BoardLaws
 pub mod VerdictLaws
 pub mod FrameLaws

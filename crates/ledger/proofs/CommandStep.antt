@@ -42,8 +42,9 @@ module _ (p : Profile) (s : State) (d : List ℕ) (k : Ledger) (a : ℕ) (f : Li
   setAddress-enters args e =
       setAddress-cases p s args d Enters
       (record {
-        taken = λ own. other-no-entry p k a f to ok [] _ d (rw e) (rw e) (keeps-other p s d k _ _ kept);
         foreign = λ other. no-reply-no-entry p k a f to s d form kept;
+        refused = λ own r. tells 0x01 invalidArguments [] e refl refl;
+        taken = λ own r. other-no-entry p k a f to ok [] _ d (rw e) (rw e) (keeps-other p s d k _ _ kept);
       })
 
   serial-enters : commandOf (p .bus) f ≡ 0x04 → Enters (serialNumber p s d)

@@ -32,11 +32,14 @@ fn command_wrong(bus: Bus, longest: usize, destination: usize, code: usize, n: u
     destination == 0 || address_over(bus, destination)
 }
 
-// A new bus address over its range, or a hardware type over 255.
+// A new bus address over its range or reserved, or a hardware type over 255.
 fn set_address_wrong(bus: Bus, address: usize, hardware: usize) -> bool
     ensures { λ r. ⌜ r ≡ setAddressWrong bus address hardware ⌝ }
 {
-    address_over(bus, address) || 255 < hardware
+    if address_over(bus, address) {
+        return true;
+    }
+    addressing::reserved(bus, address) || 255 < hardware
 }
 
 // A flash address over 65,535, or a read longer than a reply holds.

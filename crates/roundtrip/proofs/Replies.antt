@@ -1,7 +1,7 @@
 -- Every reply is read. The call is the command's own (`Requests`), its response fits the decoder (`Responded`), and the decoder finds in a
 -- whole reply just its status and results (`FrameLaws`). On I²C the reply is the last reply of the state that the call leaves.
 use mathlib.Core.Path.{_≡_, refl, sym, ap, subst, _∙_}
-use mathlib.Core.Bool.{true, false}
+use mathlib.Core.Bool.{true, false, false≢true}
 use mathlib.Core.List.{List, [], _∷_, _++_, append-nil}
 use Prim.Native.Nat.{ℕ, _≤_, _<_}
 use native.Mathlib.Omega.{arith}
@@ -18,13 +18,14 @@ use Rattle.rules.specs.State.{State}
 use Rattle.rules.specs.Numbers.{refusal, Unrefused}
 use Rattle.rules.specs.Frames.{shortestReply, reply, addressed}
 use Rattle.rules.specs.Responses.{Response, Reply, NoReply, Acted}
-use Rattle.rules.specs.Commands.{addressTaken, setAddress, performed, tabled, served, lengthAllowed}
+use Rattle.rules.specs.Commands.{addressTaken, reserved, setAddress, performed, tabled, served, lengthAllowed}
 use Rattle.rules.specs.Board.{Called, withReply, readAnswered, readOut}
 use Rattle.rules.specs.Master.{Instruction, Commands, AddressReset, BoardReset}
 use Rattle.rules.specs.Master.{resultsMissing, decodedRead, resultsIn, resultBytes, whichRead, addressOver}
 use Rattle.laws.proofs.TestLaws.{by-test}
 use Rattle.laws.proofs.StateLaws.{refusal-unrefused, unrefused-refusal}
 use Rattle.laws.proofs.CommandLaws.{length-reply, setAddress-cases}
+use Rattle.laws.proofs.AddressLaws.{taken-whole, taken-addressed}
 use Rattle.laws.proofs.BoardLaws.{FormedCall, received-formed-call, withReply-kept}
 use Rattle.laws.proofs.FrameLaws.{Ends, decoded-reply, results-reply}
 use Rattle.roundtrip.specs.Sending.{Sending, Given, AddressedBy, bus, frame, call}
@@ -92,22 +93,14 @@ read-again p c address buffer i none stopped heard last some number =
     numbered : ℕ → List ℕ → Called
     numbered n r = record { number = n; reply = r; state = c .state; flash = c .flash }
 
--- an address of the bus but 0 is the board's once it is taken
-taken-addressed : (b : Bus) (a : ℕ) → addressOver b a ≡ false → (a ≡ 0 → ⊥) → addressed b (Own (addressTaken b a)) a ≡ true
-unfolding addressed
-taken-addressed I2c a over some =
-    let below : a < 128 = omega (arith, ltb-false 127 a over) in
-    rw (ne-eqb a 0 some, lt-ltb a 128 below, mod-eq-of-lt below, eq-eqb a a refl)
-taken-addressed Rs485 a over some = rw (ne-eqb a 0 some, eq-eqb a a refl)
-
--- a set address that replies has taken the address
+-- a set address that replies has taken the address, if it isn't reserved
 setAddress-taken : (p : Profile) (s : State) (args d : List ℕ) (status : ℕ) (results : List ℕ)
-    → setAddress p s args d .response ≡ Reply status results
+    → reserved (p .bus) (addressTaken (p .bus) (getD args 0 0)) ≡ false → setAddress p s args d .response ≡ Reply status results
     → setAddress p s args d .state .address ≡ Own (addressTaken (p .bus) (getD args 0 0))
-setAddress-taken p s args d status results =
+setAddress-taken p s args d status results free =
     setAddress-cases p s args d
     (λ a. a .response ≡ Reply status results → a .state .address ≡ Own (addressTaken (p .bus) (getD args 0 0)))
-    (record { taken = λ e said. refl; foreign = λ e said. cc })
+    (record { foreign = λ e said. cc; refused = λ e r said. absurd (false≢true (sym free ∙ r)); taken = λ e r said. refl })
 
 performed-setAddress : (p : Profile) (s : State) (args d : List ℕ) → performed p s 0x01 args d ≡ setAddress p s args d
 unfolding performed
@@ -188,30 +181,41 @@ module _ (x : Sending) (given : Given x) (code : ℕ) (arguments : List ℕ) (ta
                 (again more .results-are);
           }
 
+      -- set address to a free address of the bus
+      module _ (is : code ≡ 0x01) (over : addressOver (bus x) (getD arguments 0 0) ≡ false)
+          (free : reserved (bus x) (getD arguments 0 0) ≡ false) where
+        free-taken : reserved (bus x) (addressTaken (bus x) (getD arguments 0 0)) ≡ false
+        free-taken = rw (taken-whole (bus x) (getD arguments 0 0) over) free
+
+        moved : act .state .address ≡ Own (addressTaken (bus x) (getD arguments 0 0))
+        moved =
+            let same : act ≡ setAddress (x .profile) (x .state) arguments (x .flash) =
+            ap (λ (k : ℕ). performed (x .profile) (x .state) k arguments (x .flash)) is
+            ∙ performed-setAddress (x .profile) (x .state) arguments (x .flash) in
+            rw same (setAddress-taken (x .profile) (x .state) arguments (x .flash) status results free-taken (rw same at said))
+
+        moved-addressed : lengthAllowed 0x01 (length arguments) ≡ true
+            → addressed (bus x) (call x .state .address) (addressedNext (x .to) code arguments) ≡ true
+        moved-addressed long =
+            let at : addressedNext (x .to) code arguments ≡ addressTaken (bus x) (getD arguments 0 0) =
+            rw is (next-set (x .to) arguments long) ∙ sym (taken-whole (bus x) (getD arguments 0 0) over) in
+            rw (left-address, moved, at) (taken-addressed (bus x) (getD arguments 0 0) free-taken)
+
       next-addressed : addressed (bus x) (x .state .address) (x .to) ≡ true
-          → (code ≡ 0x01 → addressOver (bus x) (getD arguments 0 0) ≡ false) → lengthAllowed code (length arguments) ≡ true
-          → (addressedNext (x .to) code arguments ≡ 0 → ⊥)
+          → NewAddress (bus x) (Commands code arguments) → lengthAllowed code (length arguments) ≡ true
           → addressed (bus x) (call x .state .address) (addressedNext (x .to) code arguments) ≡ true
-      next-addressed heard fits long some =
+      next-addressed heard fits long =
           by-test (eqb code 0x01)
           (λ e.
           let is : code ≡ 0x01 = eqb-true code 0x01 e in
-          let own : act .state .address ≡ Own (addressTaken (bus x) (getD arguments 0 0)) = moved is said in
-          let at : addressedNext (x .to) code arguments ≡ getD arguments 0 0 = rw is (next-set (x .to) arguments (rw is at long)) in
-          rw (left-address, own, at) (taken-addressed (bus x) (getD arguments 0 0) (fits is) (λ z. some (at ∙ z))))
+          let whole : lengthAllowed 0x01 (length arguments) ≡ true = rw is at long in
+          moved-addressed is (fits is whole .0) (fits is whole .1) whole)
           (λ e. rw (left-address, responding .address-kept (eqb-false code 0x01 e), next-kept (x .to) code arguments e) heard)
-        where
-          moved : code ≡ 0x01 → act .response ≡ Reply status results → act .state .address ≡ Own (addressTaken (bus x) (getD arguments 0 0))
-          moved is said =
-              let same : act ≡ setAddress (x .profile) (x .state) arguments (x .flash) =
-              ap (λ (k : ℕ). performed (x .profile) (x .state) k arguments (x .flash)) is
-              ∙ performed-setAddress (x .profile) (x .state) arguments (x .flash) in
-              rw same (setAddress-taken (x .profile) (x .state) arguments (x .flash) status results (rw same at said))
 
 -- a command, by its response
 module _ (x : Sending) (given : Given x) (code : ℕ) (arguments : List ℕ) (taken : TakenAs x code arguments)
     (allowed : Allowed (bus x) (x .profile .longest) (x .to) code (length arguments))
-    (address-fits : code ≡ 0x01 → addressOver (bus x) (getD arguments 0 0) ≡ false)
+    (address-fits : NewAddress (bus x) (Commands code arguments))
     (heard : (x .state .running ≡ false) × (addressed (bus x) (x .state .address) (x .to) ≡ true)) (asked : ℕ)
     (read-length : code ≡ 0x08 → asked ≡ getD arguments 2 0) where
   speaks : Responds (x .state) code asked (performed (x .profile) (x .state) code arguments (x .flash))

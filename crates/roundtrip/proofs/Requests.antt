@@ -1,7 +1,7 @@
 -- Every request is understood. A command's frame is well framed by its shape (`FrameLaws`) and by the encoder's own tests (`Made`), so the
 -- board executes it (`BoardLaws`), and the encoder asks the same table of argument lengths. A general call is its exact form.
 use mathlib.Core.Path.{_≡_, refl, _∙_}
-use mathlib.Core.Bool.{Bool, true, false}
+use mathlib.Core.Bool.{Bool, true, false, false≢true, _||_}
 use mathlib.Core.List.{List, [], _∷_, _++_}
 use Prim.Native.Nat.{ℕ, _+_}
 use native.Mathlib.Omega.{arith}
@@ -20,7 +20,7 @@ use Rattle.rules.specs.Bytes.{same}
 use Rattle.rules.specs.CheckSums.{bit, byte, run, sum, sealed}
 use Rattle.rules.specs.Numbers.{refusal}
 use Rattle.rules.specs.Frames.{twoBytes, request, resetAddressFrame, resetFrame, destination, addressed, verdict, commandOf, argumentsOf}
-use Rattle.rules.specs.Commands.{served, lengthAllowed, performed, executed}
+use Rattle.rules.specs.Commands.{tabled, served, lengthAllowed, reserved, performed, executed}
 use Rattle.rules.specs.Board.{nothing, addressReset, handled}
 use Rattle.rules.specs.Master.{Instruction, Commands, AddressReset, BoardReset, instructionOf, instructionBytes, requestBytes}
 use Rattle.rules.specs.Master.{addressOver, numbersWrong}
@@ -32,21 +32,22 @@ use Rattle.laws.proofs.TestLaws.{||-false}
 use Rattle.laws.proofs.RequestLaws.{Allowed, AllowedBy}
 use Rattle.roundtrip.proofs.Made.{encoded-made}
 
--- a new address that set address carries is one of the bus
+-- a new address that a whole set address carries is one of the bus, and none of the reserved
 abbrev pub NewAddress : Bus → Instruction → Type 0
-NewAddress b (Commands code arguments) = code ≡ 0x01 → addressOver b (getD arguments 0 0) ≡ false
+NewAddress b (Commands code arguments) =
+    code ≡ 0x01 → lengthAllowed 0x01 (length arguments) ≡ true
+    → (addressOver b (getD arguments 0 0) ≡ false) × (reserved b (getD arguments 0 0) ≡ false)
 NewAddress b AddressReset = Unit
 NewAddress b BoardReset = Unit
 
-none-over : (b : Bus) → addressOver b 0 ≡ false
-none-over I2c = refl
-none-over Rs485 = refl
-
 new-address : (b : Bus) (M : ℕ) (r : Request) (bytes : List ℕ) → numbersWrong b M r ≡ false → NewAddress b (instructionOf r bytes)
-new-address b M (Plain code) bytes e = λ is. none-over b
-new-address b M (SetAddress address hardware) bytes e = λ is. ||-false (addressOver b address) (ltb 255 hardware) e .0
-new-address b M (Write address) bytes e = λ is. absurd (omega arith)
-new-address b M (Read address n) bytes e = λ is. absurd (omega arith)
+unfolding tabled
+new-address b M (Plain code) bytes e = λ is allowed. absurd (false≢true allowed)
+new-address b M (SetAddress address hardware) bytes e = λ is allowed.
+    let over = ||-false (addressOver b address) (reserved b address || ltb 255 hardware) e in
+    (over .0, ||-false (reserved b address) (ltb 255 hardware) (over .1) .0)
+new-address b M (Write address) bytes e = λ is allowed. absurd (omega arith)
+new-address b M (Read address n) bytes e = λ is allowed. absurd (omega arith)
 new-address b M ResetAddress bytes e = tt
 new-address b M Reset bytes e = tt
 

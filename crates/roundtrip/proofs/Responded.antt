@@ -57,9 +57,10 @@ module _ (p : Profile) (s : State) (d : List ℕ) (code asked : ℕ) where
   setAddress-responds args is =
       setAddress-cases p s args d (Responds s code asked)
       (record {
-        taken = λ e.
-            record { status-known = omega arith; enough = rw is; still-stopped = refl; address-kept = λ other. absurd (other is) };
         foreign = λ e. tt;
+        refused = λ e r. invalid-responds;
+        taken = λ e r.
+            record { status-known = omega arith; enough = rw is; still-stopped = refl; address-kept = λ other. absurd (other is) };
       })
 
   serialNumber-responds : code ≡ 0x04 → Responds s code asked (serialNumber p s d)

@@ -47,9 +47,8 @@ pub record Answered (x : Sending) (code : ℕ) (arguments : List ℕ) (asked sta
   pub number-is : call x .number ≡ 0
   pub reads : ReadsAs (bus x) code (x .to) asked (call x .reply) status results
   pub read-out : bus x ≡ I2c → ReadOut x code asked status results
-  -- there is an address to read at, but after a set address to 0
-  pub next-addressed : (addressedNext (x .to) code arguments ≡ 0 → ⊥)
-      → addressed (bus x) (call x .state .address) (addressedNext (x .to) code arguments) ≡ true
+  -- there is an address to read at
+  pub next-addressed : addressed (bus x) (call x .state .address) (addressedNext (x .to) code arguments) ≡ true
 
 -- by the command's response: a reply that is read, or nothing to send
 abbrev pub ResponseRead : Sending → ℕ → List ℕ → ℕ → Response → Type 0

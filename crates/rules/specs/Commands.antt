@@ -50,16 +50,22 @@ abbrev pub addressTaken : Bus → ℕ → ℕ
 addressTaken I2c a = a % 128
 addressTaken Rs485 a = a
 
--- 0x01 set address: address, type (own or 0, else no reply)
+-- W1, reserved addresses: 0 to 7 and 120 to 127 on I²C, 0 and 248 to 255 on RS485
+abbrev pub reserved : Bus → ℕ → Bool
+reserved I2c a = leb a 7 || (leb 120 a && leb a 127)
+reserved Rs485 a = eqb a 0 || (leb 248 a && leb a 255)
+
+-- set address is for boards of this type; type 0 is any
+abbrev pub typeMatches : Profile → ℕ → Bool
+typeMatches p asked = eqb asked (p .hardware) || eqb asked 0
+
+-- 0x01 set address: address, type; no reply to another type, then INVALID_ARGUMENTS for a reserved address
 unfoldable pub setAddress : Profile → State → List ℕ → List ℕ → Acted
 setAddress p s args d =
-    cond (eqb (getD args 1 0) (p .hardware) || eqb (getD args 1 0) 0)
-    (record {
-      response = Reply ok [];
-      state = withAddress s (Own (addressTaken (p .bus) (getD args 0 0)));
-      flash = d;
-    })
-    (record { response = NoReply; state = s; flash = d })
+    let own : ℕ = addressTaken (p .bus) (getD args 0 0) in
+    cond (not (typeMatches p (getD args 1 0))) (record { response = NoReply; state = s; flash = d })
+    (cond (reserved (p .bus) own) (replying s d invalidArguments [])
+    (replying (withAddress s (Own own)) d ok []))
 
 -- 0x03 hardware info: type and compatible revision, bootloader version, two-byte S
 abbrev pub hardwareInfo : Profile → List ℕ

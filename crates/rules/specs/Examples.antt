@@ -1,18 +1,21 @@
 -- Document 01, "Proved examples", in one table with one statement. E1 to E12, the last three on both buses and at two offsets; the edges
--- that it names as rows 13 to 19; a shorter upload over a longer one as row 20; the edges of the sizes (numbers 2 and 4) as rows 21 to 29.
+-- that it names as rows 13 to 19; a shorter upload over a longer one as row 20; the edges of the sizes (numbers 2 and 4) as rows 21 to 29;
+-- the edges of the reserved addresses (W1) as rows 30 to 33.
 use mathlib.Core.Bool.{Bool, false, cond}
-use mathlib.Core.List.{List, [], _∷_, _++_}
+use mathlib.Core.List.{List, [], _∷_, _++_, map}
 use Prim.Native.Nat.{ℕ, _+_}
-use lib.ListN.{length, take, drop, replicate}
+use lib.ListN.{length, take, drop, replicate, getD}
 use Rattle.rules.specs.declared.kinds.Bus.{Bus}
 use Rattle.rules.specs.declared.kinds.Bus.the-variants.{I2c, Rs485}
 use Rattle.rules.specs.declared.kinds.Address.the-variants.{DefaultRange}
+use Rattle.rules.specs.declared.requests.Request.the-variants.{SetAddress}
 use Rattle.rules.specs.Bytes.{same}
 use Rattle.rules.specs.Profile.{Profile}
 use Rattle.rules.specs.State.{State, fresh}
 use Rattle.rules.specs.Numbers.{refusal}
-use Rattle.rules.specs.Frames.{request, reply, resetFrame, resetAddressFrame}
+use Rattle.rules.specs.Frames.{headerLength, request, reply, resetFrame, resetAddressFrame}
 use Rattle.rules.specs.Board.{Called, nothing, received}
+use Rattle.rules.specs.Master.{encoded}
 
 -- an example: its number, what the definitions give, and what document 01 states
 pub record Row : Type 0 where
@@ -106,6 +109,15 @@ stateAt next w count k = record {
 -- such a state handed to a board
 abbrev pub givenTo : Profile → State → ℕ
 givenTo p s = refusal p s 128 256
+
+-- the status of the fresh board's reply to set address, with its own type
+abbrev pub addressStatus : Bus → ℕ → ℕ
+addressStatus bus address =
+    getD (sentTo (exampleAt bus 0) 8 (blank (exampleAt bus 0)) 0x01 (address ∷ 1 ∷ []) .reply) (headerLength bus) 6
+
+-- the number of a set address that is encoded for a bus
+abbrev pub addressEncoded : Bus → ℕ → ℕ
+addressEncoded bus address = encoded bus 256 (SetAddress address 1) 8 [] 256 .number
 
 -- the erase count that a call left
 abbrev pub countAfter : Called → ℕ
@@ -203,4 +215,13 @@ rows =
     ∷ row 29 (givenTo exampleBoard (stateAt 0 0 0 256) ∷ givenTo exampleBoard (stateAt 0 0 0 257) ∷ givenTo (built Rs485 256 128 0 1 [])
     (stateAt 0 0 0 1) ∷ [])
     (0 ∷ 4 ∷ 4 ∷ [])
+    -- W1: statuses of set address to 0, 7, 8, 119, 120, 127; 128 and 135 are 0 and 7 without their top bit, 136 and 247 are 8 and 119
+    ∷ row 30 (map (addressStatus I2c) (0 ∷ 7 ∷ 8 ∷ 119 ∷ 120 ∷ 127 ∷ 128 ∷ 135 ∷ 136 ∷ 247 ∷ 248 ∷ 255 ∷ []))
+    (5 ∷ 5 ∷ 0 ∷ 0 ∷ 5 ∷ 5 ∷ 5 ∷ 5 ∷ 0 ∷ 0 ∷ 5 ∷ 5 ∷ [])
+    -- on RS485
+    ∷ row 31 (map (addressStatus Rs485) (0 ∷ 1 ∷ 247 ∷ 248 ∷ 255 ∷ [])) (5 ∷ 0 ∷ 0 ∷ 5 ∷ 5 ∷ [])
+    -- numbers of the encoder, which drops no bit
+    ∷ row 32 (map (addressEncoded I2c) (0 ∷ 7 ∷ 8 ∷ 119 ∷ 120 ∷ 127 ∷ 128 ∷ 136 ∷ []))
+    (7 ∷ 7 ∷ 0 ∷ 0 ∷ 7 ∷ 7 ∷ 7 ∷ 7 ∷ [])
+    ∷ row 33 (map (addressEncoded Rs485) (0 ∷ 1 ∷ 247 ∷ 248 ∷ 255 ∷ 256 ∷ [])) (7 ∷ 0 ∷ 0 ∷ 7 ∷ 7 ∷ 7 ∷ [])
     ∷ []

@@ -22,7 +22,7 @@ use Rattle.rules.specs.Profile.{frameInRange}
 use Rattle.rules.specs.CheckSums.{sumRight}
 use Rattle.rules.specs.Frames.{headerLength, shortestRequest, shortestReply, twoBytes, request, resetAddressFrame, resetFrame}
 use Rattle.rules.specs.Responses.{ok}
-use Rattle.rules.specs.Commands.{served, lengthAllowed}
+use Rattle.rules.specs.Commands.{served, lengthAllowed, reserved}
 
 -- the encoder
 
@@ -92,9 +92,9 @@ instructionWrong bus M destination (Commands code arguments) = commandWrong bus 
 instructionWrong bus M destination AddressReset = false
 instructionWrong bus M destination BoardReset = false
 
--- a new bus address over its range, a hardware type over 255
+-- a new bus address over its range or reserved (W1), a hardware type over 255
 abbrev pub setAddressWrong : Bus → ℕ → ℕ → Bool
-setAddressWrong bus address hardware = addressOver bus address || ltb 255 hardware
+setAddressWrong bus address hardware = addressOver bus address || (reserved bus address || ltb 255 hardware)
 
 -- a read longer than a reply holds
 abbrev pub readWrong : Bus → ℕ → ℕ → ℕ → Bool

@@ -1,6 +1,7 @@
 // The commands that change the board and not its flash: set address, start.
 use profile::Profile;
 use response::Done;
+use response::INVALID_ARGUMENTS;
 use response::OK;
 use response::Response;
 use rules::kinds::Address;
@@ -34,7 +35,7 @@ fn address_taken(bus: Bus, address: u8) -> u8
     }
 }
 
-// 0x01 set address: address, type (own or 0, else no reply).
+// 0x01 set address: address, type (own or 0, else no reply). A reserved address is refused.
 pub fn set_address(p: Profile, s: State, args: &[u8], out: &mut [u8], at: usize) -> Done
     requires { ⌜ (length (now args) ≡ 2) × (at ≤ length (now out)) ⌝ }
     ensures { λ r. ⌜ ((d : List ℕ) → commandEffect r d (now (out .exit))
@@ -48,6 +49,9 @@ pub fn set_address(p: Profile, s: State, args: &[u8], out: &mut [u8], at: usize)
     }
     let bus = p.bus;
     let own = address_taken(bus, args[0]);
+    if addressing::reserved(bus, own as usize) {
+        return response::reply(s, INVALID_ARGUMENTS, &[], out, at);
+    }
     response::reply(s.with_address(Address::Own(own)), OK, &[], out, at)
 }
 

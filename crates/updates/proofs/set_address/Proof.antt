@@ -1,6 +1,8 @@
--- `updates::set_address` meets its contract: its test is the definition's, and the address is taken over.
+-- `updates::set_address` meets its contract: its tests are the definition's, and the address is refused or taken over.
 use mathlib.Core.Path.{sym, _∙_}
 use Rattle.laws.proofs.CommandLaws.{setAddress-outcomes}
+use Rattle.state.specs.View.{view}
+use Rattle.profile.specs.View.{profileOf}
 use borrow.Author.Tests.{not-true, not-false}
 use borrow.Author.Needs.{needs}
 use Rattle.updates.proofs.set_address.Statement.{statement}
@@ -23,8 +25,11 @@ shared-slice-read-address-taken c = search needs
 address-taken-requires : tie.Need-address-taken-requires
 address-taken-requires c κs = search needs
 
-with-address-requires : tie.Need-with-address-requires
-with-address-requires c κs = search needs
+cast-reserved : tie.Need-cast-reserved
+cast-reserved c = search needs
+
+reserved-requires : tie.Need-reserved-requires
+reserved-requires c κs = search needs
 
 slice-aggregate-reply : tie.Need-slice-aggregate-reply
 slice-aggregate-reply c = search needs
@@ -37,16 +42,49 @@ same-length c = search needs
 
 returns-2 : tie.Need-returns-2
 returns-2 c =
-    let w = c .before .before .before .before .before in
-    let a = w .before in
+    let i = c .before .before .before .before .before in
+    let r = i .before in
+    let a = r .before in
     let e = a .before .before in
     let h = e .before in
+    let st = h .before .before .before .before in
     λ d.
     rw (
-      setAddress-outcomes _ _ _ d .taken (sym (h .type-matches .ensures) ∙ not-false (h .type-matches .result) (e .if1 .left)),
+      setAddress-outcomes (profileOf (st .args .p)) (view (st .args .s)) (st .args .args .now) d .refused
+      (sym (h .type-matches .ensures) ∙ not-false (h .type-matches .result) (e .if1 .left))
+      (sym (rw (a .address-taken .ensures) at (r .reserved .ensures)) ∙ i .if2 .taken)
+    )
+    (c .before .before .reply .ensures d)
+
+with-address-requires : tie.Need-with-address-requires
+with-address-requires c κs = search needs
+
+slice-aggregate-reply-2 : tie.Need-slice-aggregate-reply-2
+slice-aggregate-reply-2 c = search needs
+
+reply-requires-2 : tie.Need-reply-requires-2
+reply-requires-2 c κs = search needs
+
+same-length-2 : tie.Need-same-length-2
+same-length-2 c = search needs
+
+returns-3 : tie.Need-returns-3
+returns-3 c =
+    let w = c .before .before .before .before .before in
+    let i = w .before in
+    let r = i .before in
+    let a = r .before in
+    let e = a .before .before in
+    let h = e .before in
+    let st = h .before .before .before .before in
+    λ d.
+    rw (
+      setAddress-outcomes (profileOf (st .args .p)) (view (st .args .s)) (st .args .args .now) d .taken
+      (sym (h .type-matches .ensures) ∙ not-false (h .type-matches .result) (e .if1 .left))
+      (sym (rw (a .address-taken .ensures) at (r .reserved .ensures)) ∙ i .if2 .left),
       ← a .address-taken .ensures,
     )
-    (rw (w .with-address .ensures) at (c .before .before .reply .ensures d))
+    (rw (w .with-address .ensures) at (c .before .before .reply2 .ensures d))
 
 pub set-address-spec : {M : Type 1} → statement M
 set-address-spec =
@@ -57,8 +95,14 @@ set-address-spec =
     returns
     shared-slice-read-address-taken
     address-taken-requires
-    with-address-requires
+    cast-reserved
+    reserved-requires
     slice-aggregate-reply
     reply-requires
     same-length
-    returns-2)
+    returns-2
+    with-address-requires
+    slice-aggregate-reply-2
+    reply-requires-2
+    same-length-2
+    returns-3)
