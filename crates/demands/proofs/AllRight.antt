@@ -1,27 +1,31 @@
 -- Demand 2 of the board of the rules. Along a list the state stays well formed, flash keeps its length (`BoardLaws`), and the past tells
 -- what the state keeps (`Received`); so each well-framed frame gets its command's response (`Answered`).
 use mathlib.Core.Path.{_≡_, refl, sym, ap, subst, _∙_}
-use mathlib.Core.Bool.{true}
+use mathlib.Core.Bool.{true, false}
 use mathlib.Core.List.{List, [], _∷_}
 use Prim.Native.Nat.{ℕ, _+_, _≤_}
 use native.Mathlib.Omega.{arith}
-use lib.ListN.{length}
+use lib.ListN.{length, getD}
 use Rattle.rules.specs.Profile.{Profile, inRange}
 use Rattle.rules.specs.declared.kinds.Bus.{Bus}
 use Rattle.rules.specs.declared.kinds.Bus.the-variants.{I2c, Rs485}
-use Rattle.rules.specs.State.{State, Upload, fresh, withUpload, wellFormed}
+use Rattle.rules.specs.declared.kinds.Address.the-variants.{Own}
+use Rattle.rules.specs.State.{State, Upload, fresh, withAddress, withUpload, wellFormed}
 use Rattle.rules.specs.Numbers.{refusal}
 use Rattle.rules.specs.Frames.{reply, destination, commandOf, argumentsOf, twoBytes}
 use Rattle.rules.specs.Commit.{Progress, finalized}
-use Rattle.rules.specs.Responses.{Acted, Reply, replying, ok, invalidArguments}
-use Rattle.rules.specs.Commands.{finished, executed}
+use Rattle.rules.specs.Responses.{Acted, Reply, NoReply, replying, ok, invalidArguments}
+use Rattle.rules.specs.Commands.{reserved, typeMatches, setAddress, finished, executed}
 use Rattle.rules.specs.Board.{Called, withReply, finishedCall, received, readAnswered, readOut}
 use Rattle.laws.proofs.StateLaws.{inRange-facts, unrefused-refusal, fresh-wellFormed}
+use Rattle.laws.proofs.TestLaws.{by-test}
+use Rattle.laws.proofs.CommandLaws.{setAddress-outcomes}
 use Rattle.laws.proofs.BoardLaws.{withReply-upload, received-handled, received-formed-call, readOut-formed-call}
 use Rattle.laws.proofs.BoardLaws.{readOut-state, readOut-flash}
 use Rattle.ledger.specs.Ledger.{Ledger, opened}
 use Rattle.ledger.specs.Calls.{Call, Frame, Read, reaction, ruled, Step, fed, stepped, trace}
 use Rattle.demands.specs.Past.{Known, pastOf, knownOf, wellFramed, after}
+use Rattle.demands.specs.Acceptance.{newAddress, addressStatus}
 use Rattle.demands.specs.Acceptance.{Answers, Unchanged, FrameRight, ReadRight, AllRight, Demand2, StateRight, lastReadable}
 use Rattle.demands.proofs.Answered
 use Rattle.demands.proofs.Received.{received-followed}
@@ -53,6 +57,29 @@ module _ (p : Profile) (k : Ledger) (a : ℕ) (f : List ℕ) (n : ℕ) where
           → withReply (p .bus) t (reply (p .bus) (destination (p .bus) a f) status results) .upload .count ≡ t .upload .count
       replied-count t status results =
           ap (λ (u : Upload). u .count) (withReply-upload (p .bus) t (reply (p .bus) (destination (p .bus) a f) status results))
+
+  -- set address, by its outcomes
+  address-answers : (s : State) (d : List ℕ) → typeMatches p (getD (argumentsOf (p .bus) f) 1 0) ≡ true
+      → Answers p (written-down (finishedCall (p .bus) (destination (p .bus) a f) (setAddress p s (argumentsOf (p .bus) f) d))) a f
+      (addressStatus (p .bus) f) []
+      × Unchanged (knownOf s d)
+      (written-down (finishedCall (p .bus) (destination (p .bus) a f) (setAddress p s (argumentsOf (p .bus) f) d)))
+  address-answers s d typed =
+      let outcomes = setAddress-outcomes p s (argumentsOf (p .bus) f) d in
+      by-test (reserved (p .bus) (newAddress (p .bus) f))
+      (λ r. rw r (replying-answers s d (setAddress p s (argumentsOf (p .bus) f) d) invalidArguments [] (outcomes .refused typed r)))
+      (λ r.
+      let moved : State = withAddress s (Own (newAddress (p .bus) f)) in
+      let told = replying-answers moved d (setAddress p s (argumentsOf (p .bus) f) d) ok [] (outcomes .taken typed r) in
+      rw r (told .0, record { flash-is = told .1 .flash-is; count-is = told .1 .count-is }))
+
+  silent-unchanged : (s : State) (d : List ℕ) (act : Acted) → act ≡ record { response = NoReply; state = s; flash = d }
+      → (written-down (finishedCall (p .bus) (destination (p .bus) a f) act) .number ≡ 1)
+      × Unchanged (knownOf s d) (written-down (finishedCall (p .bus) (destination (p .bus) a f) act))
+  silent-unchanged s d act e = (
+    rw e,
+    record { flash-is = rw e; count-is = rw e (ap (λ (u : Upload). u .count) (withReply-upload (p .bus) s [])) },
+  )
 
   -- finalize says the count that it leaves
   finished-answers : (s : State) (d : List ℕ)
@@ -99,6 +126,12 @@ module _ (p : Profile) (k : Ledger) (a : ℕ) (f : List ℕ) (n : ℕ) where
       reads = λ long heard is three within.
           rw (commanded long heard, is) (replying-answers s d (acts 0x08) ok
           _ (Answered.read-replying p s (argumentsOf (p .bus) f) d three within) .0);
+      moves = λ long heard is two typed.
+          rw (commanded long heard, is, Answered.address-set p s (argumentsOf (p .bus) f) d two) (address-answers s d typed);
+      other-type = λ long heard is two other.
+          rw (commanded long heard, is, Answered.address-set p s (argumentsOf (p .bus) f) d two)
+          (silent-unchanged s d (setAddress p s (argumentsOf (p .bus) f) d)
+          (setAddress-outcomes p s (argumentsOf (p .bus) f) d .foreign other));
       silence = λ long bus wrong. rw (received-handled p s d a f n (unrefused long)) (Answered.damaged-dropped p s a f d bus wrong);
       started = λ long running other.
           rw (received-handled p s d a f n (unrefused long), Answered.handled-running p s a f d running other)

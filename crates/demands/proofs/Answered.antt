@@ -18,7 +18,7 @@ use Rattle.rules.specs.CheckSums.{sumRight}
 use Rattle.rules.specs.Frames.{shortestRequest, destination, commandOf, argumentsOf, numberAt, framing, verdict, isCommand, isGeneral}
 use Rattle.rules.specs.Frames.{resetFrame}
 use Rattle.rules.specs.Responses.{Reply, replying, ok, invalidArguments}
-use Rattle.rules.specs.Commands.{accepted, written, finished, readable, shown, performed, executed, tabled}
+use Rattle.rules.specs.Commands.{setAddress, accepted, written, finished, readable, shown, performed, executed, tabled}
 use Rattle.rules.specs.Board.{nothing, finishedCall, handled}
 use Rattle.laws.proofs.TestLaws.{by-test, &&-true}
 use Rattle.laws.proofs.VerdictLaws.{Framed, framing-cases, verdict-cases, framing-framed}
@@ -90,6 +90,10 @@ module _ (p : Profile) (s : State) (args d : List ℕ) where
   pub version-replying : args ≡ [] → executed p s 0x00 args d ≡ replying s d ok (2 ∷ 2 ∷ [])
   unfolding executed performed tabled
   version-replying e = rw e
+
+  pub address-set : length args ≡ 2 → executed p s 0x01 args d ≡ setAddress p s args d
+  unfolding executed performed tabled
+  address-set two = rw two
 
   pub read-replying : length args ≡ 3 → readable p (numberAt args 0) (getD args 2 0) ≡ true
       → executed p s 0x08 args d ≡ replying s d ok (take (getD args 2 0) (drop (p .offset + numberAt args 0) d))

@@ -1,6 +1,6 @@
 -- Demand 2 over any board: what a call gets, by what is known before it.
 use mathlib.Core.Path.{_≡_}
-use mathlib.Core.Bool.{Bool, true, false, not, _&&_}
+use mathlib.Core.Bool.{Bool, true, false, cond, not, _&&_}
 use mathlib.Core.List.{List, [], _∷_}
 use Prim.Native.Nat.{ℕ, _+_, _-_, _≤_}
 use lib.Dec.{eqb, leb}
@@ -12,7 +12,7 @@ use Rattle.rules.specs.State.{State, wellFormed}
 use Rattle.rules.specs.CheckSums.{sumRight}
 use Rattle.rules.specs.Frames.{reply, destination, addressed, isGeneral, resetFrame, commandOf, argumentsOf, numberAt, twoBytes}
 use Rattle.rules.specs.Responses.{ok, invalidArguments}
-use Rattle.rules.specs.Commands.{accepted, readable}
+use Rattle.rules.specs.Commands.{addressTaken, reserved, typeMatches, accepted, readable}
 use Rattle.ledger.specs.Ledger.{Ledger}
 use Rattle.ledger.specs.Calls.{Call, Frame, Read, Board, Step, calls, ruled, stepped, traced}
 use Rattle.demands.specs.Past.{Past, Known, initially, knownOf, wellFramed, after}
@@ -22,6 +22,13 @@ abbrev pub inOrder : Profile → Past → List ℕ → Bool
 inOrder p past f =
     leb 2 (length (argumentsOf (p .bus) f))
     && accepted (p .size) (past .next) (numberAt (argumentsOf (p .bus) f) 0) (length (argumentsOf (p .bus) f) - 2)
+
+-- set address: the address that it would take, and the status for a board of its type: a reserved one is refused, any other is taken
+abbrev pub newAddress : Bus → List ℕ → ℕ
+newAddress bus f = addressTaken bus (getD (argumentsOf bus f) 0 0)
+
+abbrev pub addressStatus : Bus → List ℕ → ℕ
+addressStatus bus f = cond (reserved bus (newAddress bus f)) invalidArguments ok
 
 -- the step answers 0 with this status and these results
 pub record Answers (p : Profile) (s : Step) (a : ℕ) (f : List ℕ) (status : ℕ) (results : List ℕ) : Type 0 where
@@ -56,6 +63,15 @@ pub record FrameRight (p : Profile) (k : Known) (s : Step) (a : ℕ) (f : List �
       p .longest ≤ n → wellFramed p (k .past) a f ≡ true → commandOf (p .bus) f ≡ 0x08 → length (argumentsOf (p .bus) f) ≡ 3
       → readable p (numberAt (argumentsOf (p .bus) f) 0) (getD (argumentsOf (p .bus) f) 2 0) ≡ true
       → Answers p s a f ok (take (getD (argumentsOf (p .bus) f) 2 0) (drop (p .offset + numberAt (argumentsOf (p .bus) f) 0) (k .flash)))
+  -- set address for this board's type says so, and another type gets no reply; neither changes flash or count
+  pub moves :
+      p .longest ≤ n → wellFramed p (k .past) a f ≡ true → commandOf (p .bus) f ≡ 0x01 → length (argumentsOf (p .bus) f) ≡ 2
+      → typeMatches p (getD (argumentsOf (p .bus) f) 1 0) ≡ true
+      → Answers p s a f (addressStatus (p .bus) f) [] × Unchanged k s
+  pub other-type :
+      p .longest ≤ n → wellFramed p (k .past) a f ≡ true → commandOf (p .bus) f ≡ 0x01 → length (argumentsOf (p .bus) f) ≡ 2
+      → typeMatches p (getD (argumentsOf (p .bus) f) 1 0) ≡ false
+      → (s .number ≡ 1) × Unchanged k s
   -- on RS485 a damaged frame gets no reply
   pub silence : p .longest ≤ n → p .bus ≡ Rs485 → sumRight Rs485 f ≡ false → s .number ≡ 1
   -- after start every frame but the reset answers 1 and changes nothing

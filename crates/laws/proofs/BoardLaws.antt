@@ -15,7 +15,7 @@ use Rattle.rules.specs.declared.kinds.Verdict.the-variants.{Reset, ResetAddress
 use Rattle.rules.specs.Profile.{Profile, inRange}
 use Rattle.rules.specs.State.{State, fresh, withLast, wellFormed}
 use Rattle.rules.specs.Numbers.{refusal, flashShort, bufferShort, Unrefused}
-use Rattle.rules.specs.Frames.{reply, destination, verdict, ignored, commandOf, argumentsOf}
+use Rattle.rules.specs.Frames.{reply, addressed, destination, verdict, ignored, commandOf, argumentsOf}
 use Rattle.rules.specs.Commit.{OutsideKept}
 use Rattle.rules.specs.Responses.{Response, Reply, NoReply, Acted, invalidTransfer, invalidCrc}
 use Rattle.rules.specs.Commands.{executed}
@@ -45,6 +45,17 @@ withReply-kept get kept Rs485 s r = kept s []
 
 pub withReply-upload : (bus : Bus) (s : State) (r : List ℕ) → withReply bus s r .upload ≡ s .upload
 withReply-upload = withReply-kept (λ (s : State). s .upload) (λ s l. refl)
+
+pub withReply-running : (bus : Bus) (s : State) (r : List ℕ) → withReply bus s r .running ≡ s .running
+withReply-running = withReply-kept (λ (s : State). s .running) (λ s l. refl)
+
+pub withReply-address : (bus : Bus) (s : State) (r : List ℕ) → withReply bus s r .address ≡ s .address
+withReply-address = withReply-kept (λ (s : State). s .address) (λ s l. refl)
+
+-- on I²C the reply is kept
+pub withReply-last : (bus : Bus) (s : State) (r : List ℕ) → bus ≡ I2c → withReply bus s r .last ≡ r
+withReply-last I2c s r e = refl
+withReply-last Rs485 s r e = cc
 
 withReply-reply : (bus : Bus) (M : ℕ) (s : State) (r : List ℕ) → length r ≤ M → ReplyFacts bus M (withReply bus s r .last)
 withReply-reply I2c M s r h = record { last-most = h; last-none = λ e. cc }
@@ -194,3 +205,16 @@ module _ (p : Profile) (s : State) (a : ℕ) (d : List ℕ) (n : ℕ) where
   unfolding readOut
   readOut-flash =
       by-test (eqb (refusal p s (length d) n) 0) (λ e. by-test (readAnswered (p .bus) s a) (λ r. rw (e, r)) (λ r. rw (e, r))) (λ e. rw e)
+
+-- a call that replied on I²C is what a read at its address afterwards gives
+pub read-again : (p : Profile) (c : Called) (address buffer : ℕ) → p .bus ≡ I2c → refusal p (c .state) (length (c .flash)) buffer ≡ 0
+    → c .state .running ≡ false → addressed I2c (c .state .address) address ≡ true → c .state .last ≡ c .reply
+    → (length (c .reply) ≡ 0 → ⊥) → c .number ≡ 0
+    → readOut p (c .state) address (c .flash) buffer ≡ c
+unfolding readOut
+read-again p c address buffer i none stopped heard last some number =
+    let answered : readAnswered (p .bus) (c .state) address ≡ true = rw (i, stopped, heard, last, ne-eqb _ _ some) in
+    rw (eq-eqb _ _ none, answered) (ap (λ (n : ℕ). numbered n (c .state .last)) (sym number) ∙ ap (numbered (c .number)) last)
+  where
+    numbered : ℕ → List ℕ → Called
+    numbered n r = record { number = n; reply = r; state = c .state; flash = c .flash }

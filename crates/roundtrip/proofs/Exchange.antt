@@ -16,7 +16,7 @@ use Rattle.rules.specs.Commands.{performed}
 use Rattle.rules.specs.Board.{withReply}
 use Rattle.rules.specs.Numbers.{Unrefused}
 use Rattle.laws.proofs.StateLaws.{refusal-unrefused, unrefused-refusal}
-use Rattle.laws.proofs.BoardLaws.{FormedCall, received-formed-call, withReply-upload}
+use Rattle.laws.proofs.BoardLaws.{FormedCall, received-formed-call, withReply-upload, withReply-running, withReply-address}
 use Rattle.rules.specs.Master.{Instruction, Commands}
 use Rattle.roundtrip.specs.Sending.{Sending, Given, Beside, AddressedBy, target, bus, encoding, frame, call}
 use Rattle.roundtrip.specs.Sending.{instruction}
@@ -24,7 +24,7 @@ use Rattle.roundtrip.specs.Understood.{TakenAs, Understood}
 use Rattle.roundtrip.specs.ReadBack.{Answered, ResponseRead, Replied}
 use Rattle.roundtrip.specs.Exchanges.{Line, Board, Ready, Message, sending, fetched, answer, after, results, Ok}
 use Rattle.roundtrip.proofs.Requests.{given-understood}
-use Rattle.roundtrip.proofs.Replies.{withReply-running, withReply-address, replies-read}
+use Rattle.roundtrip.proofs.Replies.{replies-read}
 
 pub beside-self : (b : Bus) (a : ℕ) → Beside b a a
 beside-self I2c a = refl

@@ -26,7 +26,7 @@ use Rattle.laws.proofs.TestLaws.{by-test}
 use Rattle.laws.proofs.StateLaws.{refusal-unrefused, unrefused-refusal}
 use Rattle.laws.proofs.CommandLaws.{length-reply, setAddress-cases}
 use Rattle.laws.proofs.AddressLaws.{taken-whole, taken-addressed}
-use Rattle.laws.proofs.BoardLaws.{FormedCall, received-formed-call, withReply-kept}
+use Rattle.laws.proofs.BoardLaws.{FormedCall, received-formed-call, withReply-last, withReply-running, withReply-address, read-again}
 use Rattle.laws.proofs.FrameLaws.{Ends, decoded-reply, results-reply}
 use Rattle.roundtrip.specs.Sending.{Sending, Given, AddressedBy, bus, frame, call}
 use Rattle.roundtrip.specs.Sending.{instruction}
@@ -67,31 +67,6 @@ module _ (code asked : ℕ) (first second : List ℕ) (results : List ℕ) where
 reply-anywhere : (a b status : ℕ) (results : List ℕ) → reply I2c a status results ≡ reply I2c b status results
 unfolding reply
 reply-anywhere a b status results = refl
-
--- the state with another last reply
-
-withReply-last : (b : Bus) (s : State) (r : List ℕ) → b ≡ I2c → withReply b s r .last ≡ r
-withReply-last I2c s r e = refl
-withReply-last Rs485 s r e = cc
-
-pub withReply-running : (b : Bus) (s : State) (r : List ℕ) → withReply b s r .running ≡ s .running
-withReply-running = withReply-kept (λ (s : State). s .running) (λ s l. refl)
-
-pub withReply-address : (b : Bus) (s : State) (r : List ℕ) → withReply b s r .address ≡ s .address
-withReply-address = withReply-kept (λ (s : State). s .address) (λ s l. refl)
-
--- a call that replied on I²C is what a read at its address afterwards gives
-read-again : (p : Profile) (c : Called) (address buffer : ℕ) → p .bus ≡ I2c → refusal p (c .state) (length (c .flash)) buffer ≡ 0
-    → c .state .running ≡ false → addressed I2c (c .state .address) address ≡ true → c .state .last ≡ c .reply
-    → (length (c .reply) ≡ 0 → ⊥) → c .number ≡ 0
-    → readOut p (c .state) address (c .flash) buffer ≡ c
-unfolding readOut
-read-again p c address buffer i none stopped heard last some number =
-    let answered : readAnswered (p .bus) (c .state) address ≡ true = rw (i, stopped, heard, last, ne-eqb _ _ some) in
-    rw (eq-eqb _ _ none, answered) (ap (λ (n : ℕ). numbered n (c .state .last)) (sym number) ∙ ap (numbered (c .number)) last)
-  where
-    numbered : ℕ → List ℕ → Called
-    numbered n r = record { number = n; reply = r; state = c .state; flash = c .flash }
 
 -- a set address that replies has taken the address, if it isn't reserved
 setAddress-taken : (p : Profile) (s : State) (args d : List ℕ) (status : ℕ) (results : List ℕ)

@@ -12,10 +12,11 @@ use Rattle.ledger.specs.Ledger.{commits, joins, joinsAll, writes, finalizes, en
 use Rattle.ledger.specs.Calls.{trace}
 use Rattle.ledger.specs.Claim.{pieces}
 use Rattle.demands.specs.Past.{wellFramed, afterFrame, lastAfter}
+use Rattle.address_claims.specs.Addresses.{keptAfter}
 
 unfoldable pub computing : Unit {0}
 unfolding same overlay inRange uploadFormed wellFormed refusal
     bit byte run sum sealed sumRight request reply resetFrame resetAddressFrame addressed framing verdict
     committed taken takenAll finalized tabled setAddress written finished shown performed executed handled received readOut
-    commits joins joinsAll writes finalizes entered trace pieces wellFramed afterFrame lastAfter
+    commits joins joinsAll writes finalizes entered trace pieces wellFramed afterFrame lastAfter keptAfter
 computing = tt

@@ -5,13 +5,15 @@ use mathlib.Core.List.{List, [], _∷_, _++_}
 use Prim.Native.Nat.{ℕ, suc, _+_, _-_, _%_}
 use lib.Dec.{eqb, ltb}
 use lib.ListN.{length, take, set, getD, replicate}
+use Rattle.rules.specs.declared.kinds.Bus.{Bus}
+use Rattle.rules.specs.declared.kinds.Address.the-variants.{Own}
 use Rattle.rules.specs.Profile.{Profile}
-use Rattle.rules.specs.State.{State, Upload, fresh, withRunning, withUpload}
+use Rattle.rules.specs.State.{State, Upload, fresh, withAddress, withRunning, withUpload}
 use Rattle.rules.specs.CheckSums.{sumRight}
 use Rattle.rules.specs.Frames.{destination, ignored, isCommand, commandOf, argumentsOf, numberAt, twoBytes}
 use Rattle.rules.specs.Commit.{Progress, committed, finalized}
 use Rattle.rules.specs.Responses.{Reply, NoReply, Acted, ok, invalidArguments, invalidCrc, replying}
-use Rattle.rules.specs.Commands.{started, executed}
+use Rattle.rules.specs.Commands.{addressTaken, reserved, typeMatches, started, executed}
 use Rattle.rules.specs.Board.{finishedCall, handled}
 use Rattle.ledger.specs.Calls.{Call, Frame, Read, Reaction, Board, calls}
 use Rattle.wrongboards.specs.Variations.{Handling, Rule, Commit, handlingBy, boardBy, ruledBy, committedBy, asks}
@@ -213,3 +215,30 @@ countsWrites =
     let u : Upload = a .state .upload in
     let counted : Upload = record { next = u .next; waiting = u .waiting; count = suc (u .count) } in
     cond (eqb code 0x06) (record { response = a .response; state = withUpload (a .state) counted; flash = a .flash }) a)
+
+-- W1, set address
+
+-- one that refuses other addresses than the reserved, by a test of the address as it was sent
+abbrev pub refusesAddresses : (Bus → ℕ → Bool) → Board
+refusesAddresses test =
+    ruledBy (λ p s code args d.
+    cond (eqb code 0x01 && (eqb (length args) 2 && typeMatches p (getD args 1 0)))
+    (cond (test (p .bus) (getD args 0 0)) (replying s d invalidArguments [])
+    (replying (withAddress s (Own (addressTaken (p .bus) (getD args 0 0)))) d ok []))
+    (executed p s code args d))
+
+-- one that tests the address before the type
+abbrev pub refusesForeignType : Board
+refusesForeignType =
+    ruledBy (λ p s code args d.
+    cond (eqb code 0x01 && (eqb (length args) 2 && reserved (p .bus) (addressTaken (p .bus) (getD args 0 0))))
+    (replying s d invalidArguments [])
+    (executed p s code args d))
+
+-- one that refuses a reserved address and takes it
+abbrev pub refusesAndMoves : Board
+refusesAndMoves =
+    ruledBy (λ p s code args d.
+    let a : Acted = executed p s code args d in
+    let moved : State = withAddress (a .state) (Own (addressTaken (p .bus) (getD args 0 0))) in
+    cond (eqb code 0x01 && eqb (length args) 2) (record { response = a .response; state = moved; flash = a .flash }) a)

@@ -1,17 +1,22 @@
 // Boards that are right but for one error, and the demand that refuses each. The functions do nothing.
+ghost use mathlib.Core.Bool.{false};
 ghost use mathlib.Core.List.{List, []};
 ghost use Prim.Native.Nat.{ℕ, suc};
+ghost use lib.Dec.{ltb};
 ghost use lib.ListN.{set};
+ghost use Rattle.rules.specs.Commands.{reserved};
 ghost use Rattle.ledger.specs.Claim.{Demand3};
 ghost use Rattle.demands.specs.Acceptance.{Demand2};
 ghost use Rattle.demands.specs.Untouched.{Demand1};
 ghost use Rattle.demands.specs.Replies.{EveryReply};
+ghost use Rattle.address_claims.specs.Addresses.{NeverReserved};
 ghost use Rattle.wrongboards.specs.Variations.{VariedRight};
 ghost use Rattle.wrongboards.specs.WrongBoards.{refusesWrites, okToAll, runsAfterWrite, keepsFlash, firstPageOnly, inventsCount};
 ghost use Rattle.wrongboards.specs.WrongBoards.{fixedReply, padsLastPage, takesHalf, invalidCrcSent, countsUnchanged};
 ghost use Rattle.wrongboards.specs.WrongBoards.{finalizesOnStart, refusesFinalizes, changesReply, readsAs, obeysForeign};
 ghost use Rattle.wrongboards.specs.WrongBoards.{ignoresStart, takesForeignType, silentFaults, answersWrong, refusedErases};
 ghost use Rattle.wrongboards.specs.WrongBoards.{readsErase, writesOutside, growsFlash, erasesRunning, showsCount, countsWrites};
+ghost use Rattle.wrongboards.specs.WrongBoards.{refusesAddresses, refusesForeignType, refusesAndMoves};
 
 // The variations that the wrong boards are made by are right themselves: with the rules' own parts they are the board of the rules.
 pub fn varied_right()
@@ -160,4 +165,27 @@ pub fn grows_flash()
 pub fn shows_other_count()
     ensures { λ _. ⌜ (Demand3 (showsCount (λ s. 0)) → ⊥) × (Demand3 (showsCount (λ s. suc (s .upload .next))) → ⊥)
         × (Demand3 (showsCount (λ s. s .upload .next)) → ⊥) ⌝ }
+{}
+
+// Set address that refuses no address, that tests it before the top bit is dropped, or that allows 7 on I²C: W1, no reserved address is
+// ever the own address.
+pub fn takes_reserved()
+    ensures { λ _. ⌜ (NeverReserved (refusesAddresses (λ bus a. false)) (λ s. s .address) → ⊥)
+        × (NeverReserved (refusesAddresses reserved) (λ s. s .address) → ⊥)
+        × (NeverReserved (refusesAddresses (λ bus a. ltb a 7)) (λ s. s .address) → ⊥) ⌝ }
+{}
+
+// A reserved address that is refused and taken: the same.
+pub fn refuses_and_moves()
+    ensures { λ _. ⌜ (NeverReserved refusesAndMoves (λ s. s .address) → ⊥) ⌝ }
+{}
+
+// A board that refuses 247 on RS485, or 119 on I²C: demand 2, set address to any other than a reserved one is taken.
+pub fn refuses_free_addresses()
+    ensures { λ _. ⌜ (Demand2 (refusesAddresses (λ bus a. ltb 246 a)) → ⊥) × (Demand2 (refusesAddresses (λ bus a. ltb 118 a)) → ⊥) ⌝ }
+{}
+
+// A reserved address that is tested before the type: demand 2, another type gets no reply.
+pub fn refuses_foreign_type()
+    ensures { λ _. ⌜ (Demand2 refusesForeignType → ⊥) ⌝ }
 {}

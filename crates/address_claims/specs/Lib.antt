@@ -1,0 +1,2 @@
+-- W1: no board at a reserved address.
+pub mod Addresses
