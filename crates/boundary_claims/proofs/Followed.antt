@@ -46,7 +46,7 @@ module _ (profile state flash : List ℕ) where
       by-test (ltb (receivedLeft profile state a f flash out .number) 2) (λ e. kept-says profile state a f flash out (ltb-true _ _ e))
       (λ e. received-kept a f out (ltb-false _ _ e))
 
-  state-ruled : (c : Call) → view (stateAt (left profile state flash c .state)) ≡ reacts c .state
+  pub state-ruled : (c : Call) → view (stateAt (left profile state flash c .state)) ≡ reacts c .state
   unfolding left
   state-ruled (Receive a f out) = received-says a f out
   state-ruled (Read a out) = sym (readOut-state (profileOf (profileAt profile)) (view (stateAt state)) a flash (length out))

@@ -1,3 +1,4 @@
 pub mod Followed
 pub mod Refused
+pub mod Unreserved
 pub mod Meets

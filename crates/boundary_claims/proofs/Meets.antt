@@ -7,6 +7,7 @@ use Rattle.ledger.specs.Calls.{ruled, trace}
 use Rattle.ledger.proofs.EveryList.{demand3}
 use Rattle.demands.proofs.AllRight.{demand2}
 use Rattle.demands.proofs.Demand1.{demand1}
+use Rattle.address_claims.specs.Addresses.{unreserved}
 use Rattle.profile.specs.View.{profileOf}
 use Rattle.profile_bytes.specs.ProfileBytes.{profileAt}
 use Rattle.childbus_board.specs.BoardBytes.{freshLeft}
@@ -15,6 +16,7 @@ use Rattle.boundary_claims.specs.Calls.{callsOf}
 use Rattle.boundary_claims.specs.Met.{BoundaryMeetsDemands}
 use Rattle.boundary_claims.proofs.Followed.{steps-ruled}
 use Rattle.boundary_claims.proofs.Refused.{all-refused}
+use Rattle.boundary_claims.proofs.Unreserved.{all-unreserved}
 
 pub boundary-meets-demands : BoundaryMeetsDemands
 boundary-meets-demands profile buffer flash cs long =
@@ -27,4 +29,7 @@ boundary-meets-demands profile buffer flash cs long =
       demand1 = rw same (demand1 (profileOf (profileAt profile)) flash (callsOf cs));
       demand2 = λ range room. rw same (demand2 (profileOf (profileAt profile)) flash (callsOf cs) range room);
       demand3 = rw same (demand3 (profileOf (profileAt profile)) flash (callsOf cs));
+      addresses =
+          all-unreserved profile (freshLeft buffer .state) flash cs
+          (ap (λ (x : states.State). unreserved (profileAt profile .bus) (x .address)) (fresh-says buffer long));
     }

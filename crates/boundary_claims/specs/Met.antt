@@ -1,4 +1,4 @@
--- The three demands of a list of C calls.
+-- The three demands, and W1, of a list of C calls.
 use mathlib.Core.Path.{_≡_}
 use mathlib.Core.Bool.{true}
 use mathlib.Core.List.{List, [], _∷_}
@@ -11,9 +11,10 @@ use Rattle.ledger.specs.Claim.{Holds}
 use Rattle.demands.specs.Past.{initially}
 use Rattle.demands.specs.Acceptance.{AllRight}
 use Rattle.demands.specs.Untouched.{AllUntouched}
+use Rattle.address_claims.specs.Addresses.{unreserved}
 use Rattle.profile.specs.View.{profileOf}
 use Rattle.profile_bytes.specs.ProfileBytes.{profileAt}
-use Rattle.state_bytes.specs.StateBytes.{stateSize}
+use Rattle.state_bytes.specs.StateBytes.{stateSize, stateAt}
 use Rattle.childbus_board.specs.BoardBytes.{freshLeft}
 use Rattle.boundary_claims.specs.Calls.{Call, Left, left, lent, callsOf, stepsOf}
 
@@ -29,6 +30,13 @@ AllRefusedUntouched profile state flash (c ∷ cs) =
     (2 ≤ left profile state flash c .number → Untouched state flash (lent c) (left profile state flash c))
     × AllRefusedUntouched profile (left profile state flash c .state) (left profile state flash c .flash) cs
 
+-- W1: after each call the own address that the state bytes say is none of the reserved
+abbrev pub AllUnreserved : List ℕ → List ℕ → List ℕ → List Call → Type 0
+AllUnreserved profile state flash [] = Unit
+AllUnreserved profile state flash (c ∷ cs) =
+    (unreserved (profileAt profile .bus) (stateAt (left profile state flash c .state) .address) ≡ true)
+    × AllUnreserved profile (left profile state flash c .state) (left profile state flash c .flash) cs
+
 -- the demands of a list of calls on the state bytes and the flash
 pub record Met (profile state flash : List ℕ) (cs : List Call) : Type 0 where
   -- what is written down is what the claims speak of: every number, every reply byte, every flash byte
@@ -40,6 +48,7 @@ pub record Met (profile state flash : List ℕ) (cs : List Call) : Type 0 where
       → profileAt profile .offset + profileAt profile .size ≤ length flash
       → AllRight (profileOf (profileAt profile)) (initially flash 0) (stepsOf profile state flash cs)
   pub demand3 : Holds (profileOf (profileAt profile)) flash (stepsOf profile state flash cs)
+  pub addresses : AllUnreserved profile state flash cs
 
 -- any profile bytes, a buffer with room for a state, any flash, any list of calls after childbus_fresh
 abbrev pub BoundaryMeetsDemands : Type 0

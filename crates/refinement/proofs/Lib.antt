@@ -1,3 +1,4 @@
 pub mod Observed
 pub mod Kept
+pub mod Unreserved
 pub mod Meets

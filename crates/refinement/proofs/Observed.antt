@@ -49,7 +49,7 @@ module _ (p : Profile) (s : State) (d : List ℕ) (k : Ledger) (h : Happened) (d
       ∙ written-expected (profileOf p) k (callOf h) (ruledCall p s d (length (h .before)) (h .input)) (h .before)
       ∙ ap (stepped ruled (profileOf p) k (callOf h)) (ruledCall-calls p s d (length (h .before)) (h .input))
 
-  state-ruled : view (h .answer .state) ≡ reacts .state
+  pub state-ruled : view (h .answer .state) ≡ reacts .state
   state-ruled =
       ap (λ (x : CallEffect). x .state) (done .called)
       ∙ ap (λ (r : Reaction states.State). r .state) (ruledCall-calls p s d (length (h .before)) (h .input))

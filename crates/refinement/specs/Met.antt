@@ -1,4 +1,4 @@
--- The three demands of calls of the code: of the states, flash bytes and buffers themselves, and of what is written down of them.
+-- The three demands, and W1, of calls of the code: of the states, flash bytes and buffers themselves, and of what is written down of them.
 use mathlib.Core.Path.{_≡_}
 use mathlib.Core.Logic.{_⊎_}
 use mathlib.Core.Bool.{true}
@@ -12,6 +12,7 @@ use Rattle.ledger.specs.Claim.{Holds}
 use Rattle.demands.specs.Past.{initially}
 use Rattle.demands.specs.Acceptance.{AllRight}
 use Rattle.demands.specs.Untouched.{foreign, damaged}
+use Rattle.address_claims.specs.Addresses.{unreserved}
 use Rattle.state.specs.declared.State.{State}
 use Rattle.state.specs.View.{uploadOf, view, Fresh}
 use Rattle.profile.specs.declared.Profile.{Profile}
@@ -34,6 +35,11 @@ abbrev pub AllKept : Profile → State → List ℕ → List Happened → Type 0
 AllKept p s d [] = Unit
 AllKept p s d (h ∷ hs) = Refused s d h × Ignored p s d h (h .input) × AllKept p (h .answer .state) (h .flash) hs
 
+-- W1: after each call the own address is none of the reserved
+abbrev pub AllUnreserved : Profile → List Happened → Type 0
+AllUnreserved p [] = Unit
+AllUnreserved p (h ∷ hs) = (unreserved (p .bus) (h .answer .state .address) ≡ true) × AllUnreserved p hs
+
 -- the demands of a list of calls from the state s and the flash d
 pub record Met (p : Profile) (s : State) (d : List ℕ) (hs : List Happened) : Type 0 where
   -- what is written down of the code is what the claims speak of
@@ -43,6 +49,7 @@ pub record Met (p : Profile) (s : State) (d : List ℕ) (hs : List Happened) : T
   pub demand2 : inRange (profileOf p) ≡ true → p .offset + p .size ≤ length d
       → AllRight (profileOf p) (initially d (s .upload .count)) (stepsOf p d hs)
   pub demand3 : Holds (profileOf p) d (stepsOf p d hs)
+  pub addresses : AllUnreserved p hs
 
 -- every list of calls of the code from the fresh board with any flash, under any one profile
 abbrev pub CodeMeetsDemands : Type 0
