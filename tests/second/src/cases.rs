@@ -291,10 +291,10 @@ fn random_state(rng: &mut Rng, p: &Profile) -> State {
 }
 
 pub fn random_own(rng: &mut Rng, bus: Bus) -> Own {
-    match rng.below(6) {
+    match rng.below(8) {
         0 => Own::Address(rng.byte()),
         1 => Own::Address(1 + rng.byte() % 127),
-        2 => Own::Address(reserved_address(rng, bus)),
+        2 | 3 => Own::Address(reserved_address(rng, bus)),
         _ => Own::DefaultRange,
     }
 }

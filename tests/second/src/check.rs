@@ -404,15 +404,15 @@ fn piece(rng: &mut Rng, image: &[u8], at: usize, most: usize) -> Vec<u8> {
     data
 }
 
-/// A new address: half of them near the reserved ones of either bus.
+/// A new address: most of them near the reserved ones of either bus.
 pub fn some_new_address(rng: &mut Rng, bus: Bus) -> u8 {
     let near: &[u64] = match bus {
         Bus::I2c => &[0, 7, 8, 119, 120, 127, 128, 135, 136, 247, 248, 255],
         Bus::Rs485 => &[0, 1, 247, 248, 255, 7, 120, 127, 128],
     };
     match rng.below(10) {
-        0..=4 => rng.of(near) as u8,
-        5..=8 => 8 + rng.below(112) as u8,
+        0..=5 => rng.of(near) as u8,
+        6..=8 => 8 + rng.below(112) as u8,
         _ => rng.byte(),
     }
 }
