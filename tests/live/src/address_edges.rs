@@ -22,6 +22,8 @@ struct OnBus {
     refused_amid_upload: u64,
     /// Of a foreign type, with a reserved address.
     silent: u64,
+    /// Of a foreign type, with one argument too many.
+    length_first: u64,
     /// Boards given at a reserved address: frames answered, set addresses among them taken.
     heard: u64,
     moved: u64,
@@ -53,12 +55,20 @@ fn most_address(bus: Bus) -> u32 {
     }
 }
 
-/// New address and type of a set address in a right frame.
-fn set_address(bus: Bus, frame: &[u8]) -> Option<(u8, u8)> {
+/// The arguments of a set address in a right frame.
+fn set_address_arguments(bus: Bus, frame: &[u8]) -> Option<&[u8]> {
     match (bus, frame) {
-        (Bus::I2c, [SET_ADDRESS, new, hardware, _]) if crc8_right(frame) => Some((*new, *hardware)),
-        (Bus::Rs485, [_, SET_ADDRESS, new, hardware, _, _]) if crc16_right(frame) => Some((*new, *hardware)),
+        (Bus::I2c, [SET_ADDRESS, arguments @ .., _]) if crc8_right(frame) => Some(arguments),
+        (Bus::Rs485, [_, SET_ADDRESS, arguments @ .., _, _]) if crc16_right(frame) => Some(arguments),
         _ => None,
+    }
+}
+
+/// A new address that the board refuses, its top bit dropped on I2C.
+fn is_refused(bus: Bus, new: u8) -> bool {
+    match bus {
+        Bus::I2c => reserved(bus, u32::from(new % 128)),
+        Bus::Rs485 => reserved(bus, u32::from(new)),
     }
 }
 
@@ -78,19 +88,18 @@ impl AddressEdges {
         let on_bus = &mut self.0[p.bus as usize];
         let at_reserved = matches!(s.own, Own::Address(own) if reserved(p.bus, u32::from(own)));
         on_bus.heard += u64::from(at_reserved && number == 0);
-        let Some((new, hardware)) = set_address(p.bus, frame) else {
-            return;
-        };
-        match reply.get(if p.bus == Bus::I2c { 0 } else { 1 }) {
-            Some(&OK) => {
+        let status = reply.get(if p.bus == Bus::I2c { 0 } else { 1 });
+        match (set_address_arguments(p.bus, frame), status) {
+            (Some(&[new, _]), Some(&OK)) => {
                 add(&mut on_bus.taken, u32::from(new));
                 on_bus.moved += u64::from(at_reserved);
             }
-            Some(_) => on_bus.refusal(s, new, hardware),
-            None => {
-                let taken = if p.bus == Bus::I2c { new % 128 } else { new };
-                on_bus.silent += u64::from(reserved(p.bus, u32::from(taken)));
+            (Some(&[new, hardware]), Some(&INVALID_ARGUMENTS)) => on_bus.refusal(s, new, hardware),
+            (Some(&[new, _]), None) => on_bus.silent += u64::from(is_refused(p.bus, new)),
+            (Some(&[_, hardware, _]), Some(&INVALID_ARGUMENTS)) => {
+                on_bus.length_first += u64::from(hardware != 0 && hardware != p.hardware);
             }
+            _ => {}
         }
     }
 
@@ -160,6 +169,7 @@ impl OnBus {
             ("refused, type 0".to_string(), self.refused_type_0),
             ("refused with bytes waiting".to_string(), self.refused_amid_upload),
             ("silence for a foreign type".to_string(), self.silent),
+            ("length before a foreign type".to_string(), self.length_first),
             ("heard at a reserved address".to_string(), self.heard),
             ("moved from a reserved address".to_string(), self.moved),
             ("number 7 before 6".to_string(), self.not_made_without_room),

@@ -394,10 +394,17 @@ fn random_frame(sheet: &Sheet, rng: &mut Rng, p: &Profile, image: &[u8], own: u8
     }
 }
 
+/// Set address, mostly of the right length.
 pub fn random_set_address(rng: &mut Rng, p: &Profile, own: u8) -> Vec<u8> {
-    let hardware = rng.of(&[0, u64::from(p.hardware), u64::from(p.hardware), 77]) as u8;
+    let own_type = u64::from(p.hardware);
     let address = some_new_address(rng, p.bus);
-    framed(p.bus, own, SET_ADDRESS, &[address, hardware])
+    if rng.percent(88) {
+        let hardware = rng.of(&[0, own_type, own_type, 77]) as u8;
+        return framed(p.bus, own, SET_ADDRESS, &[address, hardware]);
+    }
+    let hardware = rng.of(&[own_type, 77]) as u8;
+    let length = rng.of(&[0, 1, 3, 3, 3, 3]) as usize;
+    framed(p.bus, own, SET_ADDRESS, &[address, hardware, 0][..length])
 }
 
 /// A write, mostly in order and with the image's bytes.
