@@ -260,6 +260,8 @@ RESERVED = [
     ("board", "refusal drops waiting bytes", REFUSED, "taken)) {\n        s.w = 0;\n        return status"),
     ("board", "refusal clears the count", REFUSED, "taken)) {\n        s.count = 0;\n        return status"),
     ("board", "refusal ends the upload", REFUSED, "taken)) {\n        (s.next, s.w, s.count) = (0, 0, 0);\n        return status"),
+    ("board", "reply to set address not kept", "    if p.bus == Bus::I2c {\n        keep",
+     "    if p.bus == Bus::I2c && frame.first() != Some(&SET_ADDRESS) {\n        keep"),
     ("board", "every address refused", "    if reserved(p.bus, u32::from(taken)) {", "    if u32::from(taken) < 256 {"),
     ("board", "own addresses below 8 not heard", "address == own && address != 0", "address == own && address > 7"),
     ("board", "own addresses from 248 not heard", "address == own && address != 0", "address == own && address != 0 && address < 248"),
@@ -301,6 +303,7 @@ LEDGER = [
 CHECKED_TOO = [
     "reserved not refused", "reserved tested with the top bit", "reserved refused and taken", "reserved answered OK",
     "refusal back to the default range", "refusal drops waiting bytes", "every address refused",
+    "reply to set address not kept",
     "120 taken on I2C", "8 refused on I2C", "247 refused on RS485", "encoder makes reserved addresses",
 ]
 
