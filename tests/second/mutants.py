@@ -2,9 +2,9 @@
 """Single changes of meaning in the rules; each must be noticed.
 
 Changes to board, model, master and sums run on the stored fixed cases: the
-output must differ from fixed.expected. Changes to the ledger run the check of
-board against ledger: it must fail. A change whose text is not found exactly
-once, or that does not build, is an error.
+output must differ from fixed.expected. Changes to the ledger, and some others
+again, run the check of board, ledger and master: it must fail. A change whose
+text is not found exactly once, or that does not build, is an error.
 """
 import os
 import queue
@@ -142,7 +142,8 @@ MUTANTS = [
     ("board", "set address of a foreign type answers", "        return Outcome::Nothing;\n    }\n    let taken", "        return status(INVALID_ARGUMENTS);\n    }\n    let taken"),
     ("board", "type 0 is foreign", "hardware != p.hardware && hardware != 0", "hardware != p.hardware"),
     ("board", "top bit kept on I2C", "address & 0x7f", "address"),
-    ("board", "top bit dropped on RS485", "        Bus::Rs485 => address,\n    };\n    s.own", "        Bus::Rs485 => address & 0x7f,\n    };\n    s.own"),
+    ("board", "top bit dropped on RS485", "        Bus::Rs485 => address,\n    };\n    if reserved",
+     "        Bus::Rs485 => address & 0x7f,\n    };\n    if reserved"),
     ("board", "compatible and actual swapped", "ok(vec![p.actual])", "ok(vec![p.compatible])"),
     ("board", "version and revision swapped", "vec![p.hardware, p.compatible, p.version]", "vec![p.hardware, p.version, p.compatible]"),
     ("board", "little-endian results", "vec![(number >> 8) as u8, number as u8]", "vec![number as u8, (number >> 8) as u8]"),
@@ -185,8 +186,9 @@ MUTANTS = [
     ("master", "destination 0 taken", "request.destination == 0 || request.destination >", "request.destination >"),
     ("master", "I2C addresses to 128", "Bus::I2c => 127,", "Bus::I2c => 128,"),
     ("master", "RS485 addresses to 256", "Bus::Rs485 => 255,", "Bus::Rs485 => 256,"),
-    ("master", "new address not tested", "address > most_address(bus) || hardware > 255", "hardware > 255"),
-    ("master", "type not tested", "address > most_address(bus) || hardware > 255", "address > most_address(bus)"),
+    ("master", "new address over 127 or 255 made", "if address > most_address(bus) || reserved(bus, address) ||",
+     "if reserved(bus, address) ||"),
+    ("master", "type not tested", "reserved(bus, address) || hardware > 255", "reserved(bus, address)"),
     ("master", "flash address to 65536", "address > 65_535", "address > 65_536"),
     ("master", "request of M refused", "if frame.len() > m as usize", "if frame.len() >= m as usize"),
     ("master", "longest read one more", "u64::from(length) + reply_frame_bytes(bus) > u64::from(m)", "u64::from(length) + reply_frame_bytes(bus) > u64::from(m) + 1"),
@@ -217,7 +219,70 @@ MUTANTS = [
     ("master", "version 2.3 known", "minor.min(2)", "minor.min(3)"),
     ("master", "higher minor not known", "2 => Ok((2, minor.min(2)))", "2 if minor <= 2 => Ok((2, minor))"),
     ("master", "version 0 known", "        _ => Err(14),", "        0 => Ok((0, minor)),\n        _ => Err(14),"),
-    # ledger
+]
+
+# reserved addresses: the board's test, and what stands where it begins and where it refuses
+TEST = "    if reserved(p.bus, u32::from(taken)) {\n        return status(INVALID_ARGUMENTS);\n    }\n"
+REFUSED = "taken)) {\n        return status"
+REFUSAL = "taken)) {\n        return status(INVALID_ARGUMENTS);"
+ENCODER_2 = "    if m_out_of_range(m) {\n        return Answer::only(2);\n    }\n"
+RESERVED = [
+    ("model", "0 taken on I2C", "address <= 7 ||", "(1..=7).contains(&address) ||"),
+    ("model", "7 taken on I2C", "address <= 7 ||", "address <= 6 ||"),
+    ("model", "8 refused on I2C", "address <= 7 ||", "address <= 8 ||"),
+    ("model", "119 refused on I2C", "(120..=127)", "(119..=127)"),
+    ("model", "120 taken on I2C", "(120..=127)", "(121..=127)"),
+    ("model", "127 taken on I2C", "(120..=127)", "(120..=126)"),
+    ("model", "0 taken on RS485", "address == 0 || (248", "(248"),
+    ("model", "1 refused on RS485", "address == 0 || (248", "address <= 1 || (248"),
+    ("model", "247 refused on RS485", "(248..=255)", "(247..=255)"),
+    ("model", "248 taken on RS485", "(248..=255)", "(249..=255)"),
+    ("model", "255 taken on RS485", "(248..=255)", "(248..=254)"),
+    ("model", "I2C's addresses refused on RS485", "Bus::Rs485 => address == 0 ||",
+     "Bus::Rs485 => reserved(Bus::I2c, address) ||"),
+    ("model", "given state at a reserved address malformed", "upload_malformed(p, s) ||",
+     "matches!(s.own, Own::Address(own) if reserved(p.bus, u32::from(own))) || upload_malformed(p, s) ||"),
+    ("board", "reserved tested with the top bit", "reserved(p.bus, u32::from(taken))", "reserved(p.bus, u32::from(address))"),
+    ("board", "reserved before the type", "    if hardware != p.hardware && hardware != 0 {",
+     "    if reserved(p.bus, u32::from(if p.bus == Bus::I2c { address % 128 } else { address })) {\n"
+     "        return status(INVALID_ARGUMENTS);\n    }\n    if hardware != p.hardware && hardware != 0 {"),
+    ("board", "type before the length", "    if args.len() < fewest || args.len() > most {",
+     "    if code == SET_ADDRESS && args.len() > 2 && args[1] != p.hardware && reserved(p.bus, u32::from(args[0])) {\n"
+     "        return Outcome::Nothing;\n    }\n    if args.len() < fewest || args.len() > most {"),
+    ("board", "reserved not refused", TEST, ""),
+    ("board", "reserved refused for the own type only", "    if reserved(p.bus,", "    if hardware != 0 && reserved(p.bus,"),
+    ("board", "reserved refused for type 0 only", "    if reserved(p.bus,", "    if hardware == 0 && reserved(p.bus,"),
+    ("board", "reserved refused without a reply", REFUSAL, "taken)) {\n        return Outcome::Nothing;"),
+    ("board", "reserved answered OK", REFUSAL, "taken)) {\n        return ok(Vec::new());"),
+    ("board", "reserved with another status", REFUSAL, "taken)) {\n        return status(NOT_SUPPORTED);"),
+    ("board", "reserved refused and taken", REFUSED, "taken)) {\n        s.own = Own::Address(taken);\n        return status"),
+    ("board", "refusal back to the default range", REFUSED, "taken)) {\n        s.own = Own::DefaultRange;\n        return status"),
+    ("board", "refusal drops waiting bytes", REFUSED, "taken)) {\n        s.w = 0;\n        return status"),
+    ("board", "refusal clears the count", REFUSED, "taken)) {\n        s.count = 0;\n        return status"),
+    ("board", "refusal ends the upload", REFUSED, "taken)) {\n        (s.next, s.w, s.count) = (0, 0, 0);\n        return status"),
+    ("board", "reply to set address not kept", "    if p.bus == Bus::I2c {\n        keep",
+     "    if p.bus == Bus::I2c && frame.first() != Some(&SET_ADDRESS) {\n        keep"),
+    ("board", "every address refused", "    if reserved(p.bus, u32::from(taken)) {", "    if u32::from(taken) < 256 {"),
+    ("board", "own addresses below 8 not heard", "address == own && address != 0", "address == own && address > 7"),
+    ("board", "own addresses from 248 not heard", "address == own && address != 0", "address == own && address != 0 && address < 248"),
+    ("board", "board at a reserved address not moved", "    s.own = Own::Address(taken);",
+     "    if matches!(s.own, Own::Address(own) if reserved(p.bus, u32::from(own))) {\n"
+     "        return status(INVALID_ARGUMENTS);\n    }\n    s.own = Own::Address(taken);"),
+    ("master", "encoder makes reserved addresses", "|| reserved(bus, address) ||", "||"),
+    ("master", "encoder drops the top bit", "    if address > most_address(bus) || reserved",
+     "    let address = if bus == Bus::I2c && address < 256 { address % 128 } else { address };\n"
+     "    if address > most_address(bus) || reserved"),
+    ("master", "encoder refuses reserved destinations", "request.destination == 0 ||", "reserved(bus, request.destination) ||"),
+    ("master", "encoder refuses reserved flash addresses", "address > 65_535", "address > 65_535 || reserved(Bus::Rs485, address)"),
+    ("master", "encoder refuses for type 0 only", "|| reserved(bus, address) ||", "|| hardware == 0 && reserved(bus, address) ||"),
+    ("master", "6 before 7 for set address", ENCODER_2,
+     ENCODER_2 + "    if request.code == 1 && out.len() < 4 {\n        return Answer::only(6);\n    }\n"),
+    ("master", "7 before 2 for set address", ENCODER_2,
+     "    if request.code == 1 && reserved(bus, request.a) {\n        return Answer::only(7);\n    }\n" + ENCODER_2),
+]
+
+# changes to the ledger: tried with the check
+LEDGER = [
     ("ledger", "earlier copy not taken", "        self.earlier = self.copy.clone();\n", ""),
     ("ledger", "count kept at a write at 0", "        self.count = 0;\n        self.f = 0;\n    }", "        self.f = 0;\n    }"),
     ("ledger", "f kept at a write at 0", "        self.f = 0;\n    }", "    }"),
@@ -234,6 +299,14 @@ MUTANTS = [
     ("ledger", "write at 0 goes on", "        if address == 0 {\n            self.begin();\n        }\n", ""),
 ]
 
+# changes that the check notices too
+CHECKED_TOO = [
+    "reserved not refused", "reserved tested with the top bit", "reserved refused and taken", "reserved answered OK",
+    "refusal back to the default range", "refusal drops waiting bytes", "every address refused",
+    "reply to set address not kept",
+    "120 taken on I2C", "8 refused on I2C", "247 refused on RS485", "encoder makes reserved addresses",
+]
+
 
 def situations(cases):
     """The comment line that each call stands under."""
@@ -246,11 +319,11 @@ def situations(cases):
     return names
 
 
-def build(folder, module, old=None, new=None):
-    """A copy of the rules, changed and built; gives an error text or None."""
+def build(folder, main, module=None, old=None, new=None):
+    """A copy of the rules, changed and built with `check` or `answer` as main; gives an error text or None."""
     for name in RULES:
         shutil.copy(os.path.join(HERE, "src", name + ".rs"), folder)
-    if old is not None:
+    if module is not None:
         path = os.path.join(folder, module + ".rs")
         with open(path) as f:
             text = f.read()
@@ -258,7 +331,6 @@ def build(folder, module, old=None, new=None):
             return "text found %d times" % text.count(old)
         with open(path, "w") as f:
             f.write(text.replace(old, new))
-    main = "check" if module == "ledger" else "answer"
     with open(os.path.join(folder, "main.rs"), "w") as f:
         f.write(CHECK_MAIN if main == "check" else ANSWER_MAIN)
     made = subprocess.run(
@@ -296,19 +368,19 @@ def judge_check(status, output):
     return True, output.strip().split(";")[0][:60] or "stopped"
 
 
-def try_one(mutant, folders, cases, expected, names):
+def try_one(main, mutant, folders, cases, expected, names):
     module, name, old, new = mutant
     folder = folders.get()
     try:
-        error = build(folder, module, old, new)
+        error = build(folder, main, module, old, new)
         if error:
             return "ERROR", error
-        status, output = run(folder, "" if module == "ledger" else cases)
+        status, output = run(folder, "" if main == "check" else cases)
     finally:
         folders.put(folder)
     if status is None or status < 0:
         return "ERROR", "too slow or killed"
-    if module == "ledger":
+    if main == "check":
         noticed, why = judge_check(status, output)
     else:
         noticed, why = judge_answers(status, output, expected, names)
@@ -316,25 +388,27 @@ def try_one(mutant, folders, cases, expected, names):
 
 
 def unchanged_passes(folder, cases, expected):
-    for module in ("board", "ledger"):
-        error = build(folder, module)
+    for main in ("answer", "check"):
+        error = build(folder, main)
         status, output = (None, "") if error else run(folder, cases)
-        if status != 0 or (module == "board" and output != expected):
-            print("the unchanged rules fail (%s): %s" % (module, error or "status %s" % status))
+        if status != 0 or (main == "answer" and output != expected):
+            print("the unchanged rules fail (%s): %s" % (main, error or "status %s" % status))
             return False
     return True
 
 
 def try_all(folders, cases, expected):
     names = situations(cases)
+    mutants = [("answer", mutant) for mutant in MUTANTS + RESERVED]
+    mutants += [("check", mutant) for mutant in LEDGER + [m for m in RESERVED if m[1] in CHECKED_TOO]]
     noticed = 0
     with ThreadPoolExecutor(max_workers=WORKERS) as pool:
-        tried = pool.map(lambda m: try_one(m, folders, cases, expected, names), MUTANTS)
-        for (module, name, _, _), (word, why) in zip(MUTANTS, tried):
-            print("%-8s %s: %s (%s)" % (word, module, name, why), flush=True)
+        tried = pool.map(lambda m: try_one(*m, folders, cases, expected, names), mutants)
+        for (main, (module, name, _, _)), (word, why) in zip(mutants, tried):
+            print("%-8s %s, %s: %s (%s)" % (word, main, module, name, why), flush=True)
             noticed += word == "noticed"
-    print("%d of %d mutants noticed" % (noticed, len(MUTANTS)))
-    return 0 if noticed == len(MUTANTS) else 1
+    print("%d of %d mutants noticed" % (noticed, len(mutants)))
+    return 0 if noticed == len(mutants) else 1
 
 
 def main():

@@ -139,7 +139,7 @@ impl Pair {
         }
         let before = self.board.state.clone();
         let (number, reply) = self.board.call(call)?;
-        self.board.count(&mut self.tally, call, number);
+        self.board.count(&mut self.tally, before.as_ref(), call, number, &reply);
         if let (Some(p), Some(before), Some(after)) = (&self.board.profile, &before, &self.board.state) {
             if let BoardCall::Receive { address, frame } = call {
                 let seen = Seen::Frame { address: (*address).min(255) as u8, frame };
@@ -170,8 +170,9 @@ impl Pair {
             lent_flash: Lent::new(flash),
             room: buffers.room.unwrap_or(standing.room),
         };
-        let (number, _) = board.call(call)?;
-        board.count(&mut self.tally, call, number);
+        let before = board.state.clone();
+        let (number, reply) = board.call(call)?;
+        board.count(&mut self.tally, before.as_ref(), call, number, &reply);
         self.tally.aside += 1;
         Ok(())
     }
@@ -194,7 +195,9 @@ impl Pair {
         if data.bytes() != e.data || !data.guarded() {
             return Err(Difference::only("the data was changed"));
         }
-        self.tally.call(Kind::Encode, request_same(e.bus, e.m, &request, room, got, &lent)?);
+        let number = request_same(e.bus, e.m, &request, room, got, &lent)?;
+        self.tally.call(Kind::Encode, number);
+        self.tally.address_edges.encoded(e, room, number);
         Ok(())
     }
 
@@ -347,7 +350,7 @@ fn output_text(got: (u32, usize), lent: &Lent) -> String {
 }
 
 impl Board {
-    fn count(&self, tally: &mut Tally, call: &BoardCall, number: u32) {
+    fn count(&self, tally: &mut Tally, before: Option<&State>, call: &BoardCall, number: u32, reply: &[u8]) {
         let rs485 = self.profile_bytes.first() == Some(&1);
         let kind = match (call, rs485) {
             (BoardCall::Receive { .. }, false) => Kind::FrameI2c,
@@ -356,6 +359,9 @@ impl Board {
         };
         tally.call(kind, number);
         tally.most_flash = tally.most_flash.max(self.flash.len());
+        if let (Some(p), Some(before), BoardCall::Receive { address, frame }) = (&self.profile, before, call) {
+            tally.address_edges.received(p, before, *address, frame, number, reply);
+        }
     }
 
     /// The call on both sides; number and reply, if everything is the same.

@@ -1,10 +1,10 @@
 //! Random lists. Most are the second program's own; some are whole uploads, repeated in other pieces. Calls that only
 //! the C functions have, and longer requests and replies, are put in between.
 
-use crate::cases::{self, most_data, most_results, reply, Sheet, BUSES};
+use crate::cases::{self, most_data, most_results, random_own, random_set_address, reply, Sheet, BUSES};
 use crate::items::*;
 use crate::layout::{profile_bytes, put, state_bytes, PROFILE_BYTES, STATE_BYTES};
-use rules::check::{framed, general_frame, write_frame};
+use rules::check::{framed, general_frame, some_new_address, write_frame};
 use rules::model::*;
 use rules::rng::Rng;
 
@@ -78,7 +78,7 @@ fn between(sheet: &mut Sheet, rng: &mut Rng) {
         2 => sheet.read(own),
         3 => sheet.general(4),
         4 => {
-            let address = 1 + rng.byte() % 127;
+            let address = some_new_address(rng, sheet.bus());
             sheet.send(SET_ADDRESS, &[address, 0]);
         }
         5 => sheet.send(HARDWARE_INFO, &[]),
@@ -94,9 +94,9 @@ fn between(sheet: &mut Sheet, rng: &mut Rng) {
     }
 }
 
-/// More calls, one for each four items or so. None of them changes the board.
+/// More calls, one for each three items or so. None of them changes the board.
 fn with_more(rng: &mut Rng, items: Vec<Item>) -> Vec<Item> {
-    let mut list = Vec::with_capacity(items.len() * 5 / 4);
+    let mut list = Vec::with_capacity(items.len() * 4 / 3);
     let mut profile = None;
     let mut has_flash = false;
     let mut large = false;
@@ -112,7 +112,7 @@ fn with_more(rng: &mut Rng, items: Vec<Item>) -> Vec<Item> {
         list.push(item);
         match &profile {
             // a copy of a large flash takes time
-            Some(p) if has_flash && rng.percent(if large { 1 } else { 25 }) => list.push(more(rng, p)),
+            Some(p) if has_flash && rng.percent(if large { 1 } else { 33 }) => list.push(more(rng, p)),
             _ => {}
         }
     }
@@ -120,7 +120,7 @@ fn with_more(rng: &mut Rng, items: Vec<Item>) -> Vec<Item> {
 }
 
 fn more(rng: &mut Rng, p: &Profile) -> Item {
-    match rng.below(12) {
+    match rng.below(18) {
         0..=4 => aside(rng, p),
         5 => Item::AsideEncode(any_encode(rng), rng.of(&[0, 1, 3, 4, 5, 7, 8, 31, 32, 255, 256, 257, 300]) as usize),
         6 => exact_encode(rng),
@@ -132,6 +132,8 @@ fn more(rng: &mut Rng, p: &Profile) -> Item {
         },
         8 | 9 => any_decode(rng),
         10 => two_reads(rng),
+        11..=14 => set_address_encode(rng),
+        15 | 16 => set_address_aside(rng, p),
         _ => match rng.below(3) {
             0 => Item::AsideFresh(rng.of(&[0, 1, 84, 339, 340, 341, 400]) as usize),
             _ => Item::AsideVersion {
@@ -171,11 +173,17 @@ fn aside(rng: &mut Rng, p: &Profile) -> Item {
     Item::Aside(call, buffers)
 }
 
+/// Set address to a board in a state of its own.
+fn set_address_aside(rng: &mut Rng, p: &Profile) -> Item {
+    let state = any_state(rng, p);
+    let own = some_own(rng, &state);
+    let call = BoardCall::Receive { address: u32::from(own), frame: random_set_address(rng, p, own) };
+    Item::Aside(call, Buffers { state: Some(state_bytes(&state)), ..Buffers::default() })
+}
+
 fn any_state(rng: &mut Rng, p: &Profile) -> State {
     let mut s = State::fresh();
-    if rng.percent(30) {
-        s.own = Own::Address(rng.byte());
-    }
+    s.own = random_own(rng, p.bus);
     s.running = rng.percent(8);
     s.next = if rng.percent(20) { p.s } else { rng.below(u64::from(p.s) + 1) as u32 };
     s.w = rng.below(u64::from(s.next % 64) + 1) as u32;
@@ -188,11 +196,16 @@ fn any_state(rng: &mut Rng, p: &Profile) -> State {
     s
 }
 
-fn any_board_call(rng: &mut Rng, p: &Profile, s: &State) -> BoardCall {
-    let own = match s.own {
+/// An address that is the board's.
+fn some_own(rng: &mut Rng, s: &State) -> u8 {
+    match s.own {
         Own::DefaultRange => 8 + rng.byte() % 8,
         Own::Address(address) => address,
-    };
+    }
+}
+
+fn any_board_call(rng: &mut Rng, p: &Profile, s: &State) -> BoardCall {
+    let own = some_own(rng, s);
     // numbers that are the own address in their low seven or eight bits
     let address = u32::from(own) + rng.of(&[0, 0, 0, 0, 0, 0, 0, 128, 256, 65_536, 4_294_967_040]) as u32;
     if rng.percent(15) {
@@ -201,7 +214,7 @@ fn any_board_call(rng: &mut Rng, p: &Profile, s: &State) -> BoardCall {
     let most = most_data(p.bus, p.m).min(260) as u64;
     let next = u64::from(s.next);
     let left = u64::from(p.s).saturating_sub(next);
-    let frame = match rng.below(12) {
+    let frame = match rng.below(13) {
         0..=5 => {
             let at = rng.of(&[0, next, next, next, next, next + 1]);
             let length = rng.of(&[0, 1, most, most, left, left + 1, 64 - next % 64]).min(most);
@@ -210,6 +223,7 @@ fn any_board_call(rng: &mut Rng, p: &Profile, s: &State) -> BoardCall {
         6 | 7 => framed(p.bus, own, FINALIZE, &[]),
         8 => general_frame(p.bus, if rng.percent(50) { 4 } else { 6 }),
         9 => framed(p.bus, own, START, &[]),
+        10 => random_set_address(rng, p, own),
         _ => {
             let (code, length) = (rng.byte() % 16, rng.below(5) as usize);
             framed(p.bus, own, code, &rng.bytes(length))
@@ -288,8 +302,8 @@ fn any_encode(rng: &mut Rng) -> Encode {
         bus: any_bus(rng),
         m: rng.of(&[31, 32, 32, 33, 128, 128, 255, 256, 256, 256, 257, 65_568]) as u32,
         code: if rng.percent(6) { rng.of(&[260, 262]) as u32 } else { any_code(rng) },
-        to: rng.of(&[8, 8, 8, 9, 9, 100, 100, 127, 128, 255, 256, 264, 0, 4_294_967_295]) as u32,
-        a: rng.of(&[0, 1, 1, 127, 127, 128, 255, 256, 65_535, 65_535, 65_536, 4_294_967_295]) as u32,
+        to: rng.of(&[3, 8, 8, 8, 9, 100, 100, 127, 128, 255, 256, 264, 0, 4_294_967_295]) as u32,
+        a: rng.of(&[0, 1, 1, 8, 119, 127, 128, 247, 255, 256, 65_535, 65_535, 65_536, 4_294_967_295]) as u32,
         b: rng.of(&[0, 1, 27, 28, 29, 30, 251, 252, 253, 254, 255, 256, 4_294_967_295]) as u32,
         data: rng.bytes(length),
     }
@@ -314,12 +328,27 @@ fn exact_encode(rng: &mut Rng) -> Item {
         bus,
         m,
         code,
-        to: 1 + rng.below(127) as u32,
-        a: rng.below(if code == 1 { 128 } else { 65_536 }) as u32,
+        to: 1 + rng.below(if bus == 0 { 127 } else { 255 }) as u32,
+        a: if code == 1 { 8 + rng.below(112) } else { rng.below(65_536) } as u32,
         b: rng.below(u64::from(m) - 4) as u32,
         data: rng.bytes(length as usize),
     };
     Item::AsideEncode(encode, (whole - rng.below(2)) as usize)
+}
+
+/// Set address; mostly the new address alone decides.
+fn set_address_encode(rng: &mut Rng) -> Item {
+    let bus = rng.below(2) as u32;
+    let encode = Encode {
+        bus,
+        m: rng.of(&[31, 32, 64, 128, 255, 256, 256, 257]) as u32,
+        code: 1,
+        to: rng.of(&[0, 3, 8, 8, 9, 9, 100, 100, 120, 127, 250]) as u32,
+        a: if rng.percent(5) { 256 } else { u32::from(some_new_address(rng, BUSES[bus as usize])) },
+        b: rng.of(&[0, 0, 1, 7, 255, 255, 256]) as u32,
+        data: Vec::new(),
+    };
+    Item::AsideEncode(encode, rng.of(&[0, 3, 5, 6, 7, 256, 256, 256]) as usize)
 }
 
 fn any_reply(rng: &mut Rng, bus: Bus, address: u8) -> Vec<u8> {

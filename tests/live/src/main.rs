@@ -1,5 +1,6 @@
 //! Compares the library, through the functions of include/childbus.h, with the second program's rules (README.md).
 
+mod address_edges;
 #[path = "../../second/src/cases.rs"]
 #[allow(dead_code)]
 mod cases;

@@ -1,5 +1,6 @@
 //! What was compared: calls of each kind by number, and what happened in them.
 
+use crate::address_edges::AddressEdges;
 use rules::ledger::Event;
 use rules::model::*;
 
@@ -57,6 +58,7 @@ pub struct Tally {
     addresses: u64,
     starts: u64,
     silent: u64,
+    pub address_edges: AddressEdges,
 }
 
 impl Tally {
@@ -144,6 +146,7 @@ impl Tally {
         lines.push(format!("decoded replies by status 0 to 5: {}", listed(&self.decoded)));
         let parts: Vec<String> = self.happened().iter().map(|(name, n)| format!("{name} {n}")).collect();
         lines.push(parts.join(", "));
+        lines.extend(self.address_edges.lines());
         lines.push(format!("calls with buffers of their own {}, longest flash {}", self.aside, self.most_flash));
         lines
     }
@@ -158,6 +161,7 @@ impl Tally {
         missing.extend([0, 2, 3, 4, 5].iter().filter(|&&s| self.statuses[s] == 0).map(|s| format!("status {s}")));
         missing.extend((0..6).filter(|&s| self.decoded[s] == 0).map(|s| format!("decoded status {s}")));
         missing.extend(self.happened().iter().filter(|(_, n)| *n == 0).map(|(name, _)| name.to_string()));
+        missing.extend(self.address_edges.missing());
         missing
     }
 }

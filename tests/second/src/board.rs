@@ -111,14 +111,15 @@ fn general_call(bus: Bus, address: u8, frame: &[u8]) -> Option<u8> {
     }
 }
 
-fn hears(s: &State, address: u8) -> bool {
+/// Whether the address is one of this board's; on I2C see `hears_i2c`.
+pub fn hears(s: &State, address: u8) -> bool {
     match s.own {
         Own::DefaultRange => (8..=15).contains(&address),
         Own::Address(own) => address == own && address != 0,
     }
 }
 
-fn hears_i2c(s: &State, address: u8) -> bool {
+pub fn hears_i2c(s: &State, address: u8) -> bool {
     address < 128 && hears(s, address)
 }
 
@@ -195,6 +196,9 @@ fn set_address(p: &Profile, s: &mut State, address: u8, hardware: u8) -> Outcome
         Bus::I2c => address & 0x7f,
         Bus::Rs485 => address,
     };
+    if reserved(p.bus, u32::from(taken)) {
+        return status(INVALID_ARGUMENTS);
+    }
     s.own = Own::Address(taken);
     ok(Vec::new())
 }

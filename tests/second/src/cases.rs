@@ -1,6 +1,6 @@
 //! Case generation: the sheet that cases are written on, and random lists.
 
-use rules::check::{framed, general_frame, plain_profile, write_frame};
+use rules::check::{framed, general_frame, plain_profile, some_new_address, write_frame};
 use rules::model::*;
 use rules::rng::Rng;
 use rules::script::{hex, Runner};
@@ -269,7 +269,7 @@ fn random_setup(sheet: &mut Sheet, rng: &mut Rng, p: &Profile) {
 /// Mostly well formed.
 fn random_state(rng: &mut Rng, p: &Profile) -> State {
     let mut s = State::fresh();
-    s.own = random_own(rng);
+    s.own = random_own(rng, p.bus);
     s.running = rng.percent(10);
     s.next = rng.below(u64::from(p.s) + 1) as u32;
     s.w = rng.below(u64::from(s.next % 64) + 1) as u32;
@@ -290,12 +290,18 @@ fn random_state(rng: &mut Rng, p: &Profile) -> State {
     s
 }
 
-fn random_own(rng: &mut Rng) -> Own {
-    match rng.below(6) {
+pub fn random_own(rng: &mut Rng, bus: Bus) -> Own {
+    match rng.below(8) {
         0 => Own::Address(rng.byte()),
         1 => Own::Address(1 + rng.byte() % 127),
+        2 | 3 => Own::Address(reserved_address(rng, bus)),
         _ => Own::DefaultRange,
     }
+}
+
+fn reserved_address(rng: &mut Rng, bus: Bus) -> u8 {
+    let all: Vec<u64> = (0..256).filter(|&address| reserved(bus, address as u32)).collect();
+    rng.of(&all) as u8
 }
 
 /// A change of profile, flash, state or room amid the list.
@@ -363,18 +369,14 @@ fn random_board_call(sheet: &mut Sheet, rng: &mut Rng, p: &Profile, image: &[u8]
 fn random_frame(sheet: &Sheet, rng: &mut Rng, p: &Profile, image: &[u8], own: u8) -> Vec<u8> {
     let bus = p.bus;
     match rng.below(100) {
-        0..=59 => random_write(sheet, rng, p, image, own),
-        60..=74 => framed(bus, own, FINALIZE, &[]),
-        75..=81 => {
+        0..=57 => random_write(sheet, rng, p, image, own),
+        58..=71 => framed(bus, own, FINALIZE, &[]),
+        72..=78 => {
             let at = rng.below(u64::from(p.s) + 2);
             let length = rng.below(70).min(u64::from(p.s).saturating_sub(at) + 1);
             framed(bus, own, READ, &[(at >> 8) as u8, at as u8, length as u8])
         }
-        82..=84 => {
-            let hardware = rng.of(&[0, u64::from(p.hardware), u64::from(p.hardware), 77]) as u8;
-            let address = if rng.percent(80) { 1 + rng.byte() % 127 } else { rng.byte() };
-            framed(bus, own, SET_ADDRESS, &[address, hardware])
-        }
+        79..=84 => random_set_address(rng, p, own),
         85..=86 => framed(bus, own, START, &[]),
         87..=96 => framed(bus, own, rng.byte() % 16, &[]),
         97 => {
@@ -390,6 +392,19 @@ fn random_frame(sheet: &Sheet, rng: &mut Rng, p: &Profile, image: &[u8], own: u8
             rng.bytes(length)
         }
     }
+}
+
+/// Set address, mostly of the right length.
+pub fn random_set_address(rng: &mut Rng, p: &Profile, own: u8) -> Vec<u8> {
+    let own_type = u64::from(p.hardware);
+    let address = some_new_address(rng, p.bus);
+    if rng.percent(88) {
+        let hardware = rng.of(&[0, own_type, own_type, 77]) as u8;
+        return framed(p.bus, own, SET_ADDRESS, &[address, hardware]);
+    }
+    let hardware = rng.of(&[own_type, 77]) as u8;
+    let length = rng.of(&[0, 1, 3, 3, 3, 3]) as usize;
+    framed(p.bus, own, SET_ADDRESS, &[address, hardware, 0][..length])
 }
 
 /// A write, mostly in order and with the image's bytes.
@@ -441,21 +456,23 @@ fn damage(rng: &mut Rng, bytes: &mut Vec<u8>) {
 fn random_encode(sheet: &mut Sheet, rng: &mut Rng) {
     let bus = BUSES[rng.below(2) as usize];
     let m = rng.of(&[31, 32, 33, 64, 128, 256, 256, 257]) as u32;
-    let code = match rng.below(6) {
+    let code = match rng.below(7) {
         0 => 260,
         1 => 262,
         2 => rng.below(256) as u32,
+        3 => 1,
         _ => rng.below(15) as u32,
     };
-    let to = rng.of(&[8, 9, 15, 127, 128, 255, 0, 256]) as u32;
+    let to = rng.of(&[3, 8, 9, 15, 127, 128, 250, 255, 0, 256]) as u32;
     let room = rng.of(&[0, 1, 2, 3, 4, 6, 8, 32, 256, 300]);
     let before = sheet.runner.room;
     sheet.room(room as usize);
     let length = rng.below(40) as usize;
     match code {
         1 => {
-            let (a, b) = (rng.of(&[0, 9, 127, 128, 255, 256]), rng.of(&[0, 7, 255, 256]));
-            sheet.encode(bus, m, code, to, a as u32, b as u32, &[]);
+            let a = if rng.percent(10) { 256 } else { u32::from(some_new_address(rng, bus)) };
+            let b = rng.of(&[0, 7, 255, 256]) as u32;
+            sheet.encode(bus, m, code, to, a, b, &[]);
         }
         6 => {
             let a = rng.of(&[0, 1, 256, 65_535, 65_536]) as u32;

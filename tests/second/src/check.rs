@@ -6,6 +6,11 @@
 //! f, at most n, and at least the number of pages that changed; the accepted
 //! bytes stand in flash; every other byte is as just before; the same bytes
 //! accepted again since an earlier finalize give count 0.
+//!
+//! Of addresses (request W1), after each call: no reserved address is the own
+//! one; the own address changes by an OK to set address and by general calls
+//! only; on I2C a reply is read at the address that its frame went to, the OK
+//! to set address at the new one.
 
 use crate::board;
 use crate::ledger::{Event, Ledger, Seen};
@@ -39,6 +44,9 @@ pub struct Pair {
     pub commits: u64,
     pub finalizes: u64,
     pub repeats: u64,
+    /// Set addresses answered OK, and with INVALID_ARGUMENTS for their address.
+    pub moves: u64,
+    pub reserved: u64,
 }
 
 pub fn demand(holds: bool, what: &str) -> Result<(), String> {
@@ -60,6 +68,8 @@ impl Pair {
             commits: 0,
             finalizes: 0,
             repeats: 0,
+            moves: 0,
+            reserved: 0,
         }
     }
 
@@ -76,6 +86,7 @@ impl Pair {
         }
         demand(!state_malformed(&self.profile, &self.state), "the state became malformed")?;
         self.same_upload()?;
+        self.addresses(before.0.own, seen, answer.number, reply)?;
         self.commits += u64::from(self.ledger.count > before.1);
         self.follow(event)
     }
@@ -106,6 +117,48 @@ impl Pair {
         demand(u64::from(self.state.count) == ledger.count, "the counts differ")?;
         let uncommitted = &ledger.accepted[ledger.committed..];
         demand(self.state.waiting_bytes() == uncommitted, "waiting bytes are not the uncommitted ones")
+    }
+
+    fn addresses(&mut self, before: Own, seen: Seen, number: u8, reply: &[u8]) -> Result<(), String> {
+        demand(own_is_free(self.profile.bus, self.state.own), "a reserved address became the own one")?;
+        let Seen::Frame { address, frame } = seen else {
+            return demand(self.state.own == before, "a read changed the own address");
+        };
+        let set = new_address_of(self.profile.bus, frame);
+        let answered = |status: u8| number == 0 && reply.get(self.status_place()) == Some(&status);
+        match set {
+            Some(new) if answered(OK) => {
+                demand(self.state.own == Own::Address(new), "an OK to set address did not set it")?;
+                self.moves += 1;
+                return self.is_read(new, reply);
+            }
+            Some(_) if answered(INVALID_ARGUMENTS) => self.reserved += 1,
+            _ => {}
+        }
+        let to_default = number == 1 && self.state.own == Own::DefaultRange;
+        demand(self.state.own == before || to_default, "the own address changed without an OK")?;
+        if number == 0 {
+            return self.is_read(address, reply);
+        }
+        Ok(())
+    }
+
+    fn status_place(&self) -> usize {
+        match self.profile.bus {
+            Bus::I2c => 0,
+            Bus::Rs485 => 1,
+        }
+    }
+
+    /// On I2C the reply is read at the address.
+    fn is_read(&self, address: u8, reply: &[u8]) -> Result<(), String> {
+        if self.profile.bus == Bus::Rs485 {
+            return Ok(());
+        }
+        let mut out = vec![0; MOST_M as usize];
+        let answer = board::read(&self.profile, &self.state, &self.flash, &mut out, address);
+        let same = answer.number == 0 && out.get(..answer.len) == Some(reply);
+        demand(same, "a reply is not read where it must be")
     }
 
     fn follow(&mut self, event: Event) -> Result<(), String> {
@@ -157,6 +210,24 @@ impl Pair {
             }
         }
         Ok(())
+    }
+}
+
+/// The default range, or an address that set address may give; written apart from `reserved`.
+fn own_is_free(bus: Bus, own: Own) -> bool {
+    match (bus, own) {
+        (_, Own::DefaultRange) => true,
+        (Bus::I2c, Own::Address(address)) => (8..120).contains(&address),
+        (Bus::Rs485, Own::Address(address)) => (1..248).contains(&address),
+    }
+}
+
+/// The new address in a set address of the right length, on I2C without its top bit.
+fn new_address_of(bus: Bus, frame: &[u8]) -> Option<u8> {
+    match (bus, frame) {
+        (Bus::I2c, [0x01, new, _, _]) => Some(new % 128),
+        (Bus::Rs485, [_, 0x01, new, _, _, _]) => Some(*new),
+        _ => None,
     }
 }
 
@@ -246,6 +317,7 @@ fn chosen(bus: Bus) -> Vec<Call> {
         frame_call(0, general_frame(bus, 6)),
         frame_call(0, general_frame(bus, 4)),
         frame_call(8, framed(bus, 8, SET_ADDRESS, &[8, 0])),
+        frame_call(8, framed(bus, 8, SET_ADDRESS, &[0, 0])),
         Call::Read { address: 8, room: 256 },
         frame_call(20, vec![0x06]),
         short,
@@ -332,6 +404,19 @@ fn piece(rng: &mut Rng, image: &[u8], at: usize, most: usize) -> Vec<u8> {
     data
 }
 
+/// A new address: most of them near the reserved ones of either bus.
+pub fn some_new_address(rng: &mut Rng, bus: Bus) -> u8 {
+    let near: &[u64] = match bus {
+        Bus::I2c => &[0, 7, 8, 119, 120, 127, 128, 135, 136, 247, 248, 255],
+        Bus::Rs485 => &[0, 1, 247, 248, 255, 7, 120, 127, 128],
+    };
+    match rng.below(10) {
+        0..=5 => rng.of(near) as u8,
+        6..=8 => 8 + rng.below(112) as u8,
+        _ => rng.byte(),
+    }
+}
+
 fn random_call(rng: &mut Rng, pair: &Pair, image: &[u8]) -> Call {
     let bus = pair.profile.bus;
     let m = pair.profile.m as usize;
@@ -352,9 +437,12 @@ fn random_call(rng: &mut Rng, pair: &Pair, image: &[u8]) -> Call {
         50..=57 => write_frame(bus, own, 0, &piece(rng, image, 0, most)),
         58..=75 => framed(bus, own, FINALIZE, &[]),
         76..=78 => framed(bus, own, READ, &[0, rng.byte(), rng.byte() % 32]),
-        79..=80 => framed(bus, own, SET_ADDRESS, &[1 + rng.below(127) as u8, 0]),
-        81 => framed(bus, own, START, &[]),
-        82..=85 => {
+        79..=81 => {
+            let hardware = rng.of(&[0, 0, u64::from(pair.profile.hardware), 77]) as u8;
+            framed(bus, own, SET_ADDRESS, &[some_new_address(rng, bus), hardware])
+        }
+        82 => framed(bus, own, START, &[]),
+        83..=85 => {
             address = 0;
             general_frame(bus, if rng.percent(60) { 6 } else { 4 })
         }
@@ -381,9 +469,9 @@ fn frame_call_with(address: u8, frame: Vec<u8>, room: usize) -> Call {
     Call::Frame { address, frame, room }
 }
 
-/// Random lists; gives calls, commits, finalizes and repeated uploads.
-pub fn random(seed: u64, lists: u64) -> Result<[u64; 4], String> {
-    let mut sums = [0; 4];
+/// Random lists; gives calls, commits, finalizes, repeated uploads, moves and refused reserved addresses.
+pub fn random(seed: u64, lists: u64) -> Result<[u64; 6], String> {
+    let mut sums = [0; 6];
     for list in 0..lists {
         let mut rng = Rng::new(seed.wrapping_mul(0x1_0000_0001).wrapping_add(list));
         let profile = random_profile(&mut rng);
@@ -401,6 +489,8 @@ pub fn random(seed: u64, lists: u64) -> Result<[u64; 4], String> {
         sums[1] += pair.commits;
         sums[2] += pair.finalizes;
         sums[3] += pair.repeats;
+        sums[4] += pair.moves;
+        sums[5] += pair.reserved;
     }
     Ok(sums)
 }
@@ -421,7 +511,8 @@ pub fn round_trip() -> Result<u64, String> {
 fn one_trip(bus: Bus, code: u32, m: u32) -> Result<u64, String> {
     let most = m - reply_frame_bytes(bus) as u32;
     let data = vec![0x11; most as usize - 1];
-    let request = Request { code, destination: 8, a: 0, b: if code == 8 { most } else { 7 }, data: &data };
+    let a = if code == u32::from(SET_ADDRESS) { 9 } else { 0 };
+    let request = Request { code, destination: 8, a, b: if code == 8 { most } else { 7 }, data: &data };
     let mut out = [0; 256];
     let made = master::encode(bus, m, &request, &mut out);
     if served(code).is_none() {
@@ -446,18 +537,53 @@ fn one_trip(bus: Bus, code: u32, m: u32) -> Result<u64, String> {
     Ok(1)
 }
 
+/// Set address, every new address: the board takes exactly the free ones; what the encoder makes the board takes, what it
+/// refuses the board refuses if the address fits the bus.
+pub fn new_addresses() -> Result<u64, String> {
+    let mut done = 0;
+    for bus in [Bus::I2c, Bus::Rs485] {
+        for new in 0..=255u8 {
+            one_new_address(bus, new).map_err(|e| format!("{e}: {bus:?}, new address {new}"))?;
+            done += 1;
+        }
+    }
+    Ok(done)
+}
+
+fn one_new_address(bus: Bus, new: u8) -> Result<(), String> {
+    let request = Request { code: u32::from(SET_ADDRESS), destination: 8, a: u32::from(new), b: 7, data: &[] };
+    let mut out = [0; 32];
+    let made = master::encode(bus, 32, &request, &mut out);
+    let frame = framed(bus, 8, SET_ADDRESS, &[new, 7]);
+    let mut pair = Pair::new(plain_profile(bus, 32, 64, 0), vec![0xff; 64]);
+    pair.call(&frame_call(8, frame.clone()))?;
+    let taken = if bus == Bus::I2c { new % 128 } else { new };
+    let free = own_is_free(bus, Own::Address(taken));
+    demand((pair.moves, pair.reserved) == (u64::from(free), u64::from(!free)), "not taken exactly if free")?;
+    if made.number == 0 {
+        demand(out[..made.len] == frame[..], "the request is not the frame")?;
+        return demand(pair.moves == 1, "made by the encoder, refused by the board");
+    }
+    demand(made.number == 7, "neither made nor refused by the encoder")?;
+    let fits = bus == Bus::Rs485 || new < 128;
+    demand(!fits || pair.reserved == 1, "refused by the encoder, taken by the board")
+}
+
 /// All checks; a report line for each.
 pub fn all(lists: u64, depth: u32) -> Result<Vec<String>, String> {
     let mut report = Vec::new();
     report.push(format!("any input: {} rounds", total::any_input(5, 10 * lists)?));
     report.push(format!("ledger by hand: {} calls", ledger_by_hand()?));
     report.push(format!("master against board: {} requests", round_trip()?));
+    report.push(format!("new addresses, encoder against board: {}", new_addresses()?));
     report.push(format!("all lists of up to {depth} calls: {} calls", exhaustive(depth)?));
-    let [calls, commits, finalizes, repeats] = random(1, lists)?;
+    let [calls, commits, finalizes, repeats, moves, reserved] = random(1, lists)?;
     report.push(format!(
         "{lists} random lists: {calls} calls, {commits} calls with commits, \
-         {finalizes} answered finalizes, {repeats} repeated uploads"
+         {finalizes} answered finalizes, {repeats} repeated uploads, \
+         {moves} addresses set, {reserved} refused as reserved"
     ));
+    demand(lists < 100 || (moves > 0 && reserved > 0), "set address was never taken or never refused")?;
     Ok(report)
 }
 

@@ -1,11 +1,11 @@
 //! The rules of the Childbus bootloader protocol, written from the papers.
 //!
-//! `model` profile, state, argument table and the refusals of board calls;
-//! `sums` both CRCs; `board` received frame and I2C read; `master` encoder,
-//! decoder, two reads, version rule; `ledger` the ledger of demand 3;
-//! `script` reads case files and answers them; `check` compares board and
-//! ledger over lists of calls; `total` gives every function any input; `rng`
-//! is the generator of random numbers.
+//! `model` profile, state, argument table, reserved addresses and the refusals
+//! of board calls; `sums` both CRCs; `board` received frame and I2C read;
+//! `master` encoder, decoder, two reads, version rule; `ledger` the ledger of
+//! demand 3; `script` reads case files and answers them; `check` compares board
+//! and ledger over lists of calls; `total` gives every function any input;
+//! `rng` is the generator of random numbers.
 
 pub mod board;
 pub mod ledger;

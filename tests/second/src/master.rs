@@ -95,7 +95,7 @@ fn arguments(bus: Bus, m: u32, request: &Request) -> Option<Vec<u8>> {
 }
 
 fn set_address_arguments(bus: Bus, address: u32, hardware: u32) -> Option<Vec<u8>> {
-    if address > most_address(bus) || hardware > 255 {
+    if address > most_address(bus) || reserved(bus, address) || hardware > 255 {
         return None;
     }
     Some(vec![address as u8, hardware as u8])

@@ -1,4 +1,4 @@
-//! Profile, state, the argument table and the refusals that board calls test.
+//! Profile, state, the argument table, reserved addresses and the refusals that board calls test.
 
 pub const PAGE: u64 = 64;
 pub const LEAST_M: u64 = 32;
@@ -126,6 +126,14 @@ pub fn served(code: u32) -> Option<(usize, usize)> {
     match ROWS.get(code as usize) {
         Some(&(true, fewest, most)) => Some((fewest, most)),
         _ => None,
+    }
+}
+
+/// Addresses that set address gives to no board; on I2C after the top bit is dropped.
+pub fn reserved(bus: Bus, address: u32) -> bool {
+    match bus {
+        Bus::I2c => address <= 7 || (120..=127).contains(&address),
+        Bus::Rs485 => address == 0 || (248..=255).contains(&address),
     }
 }
 

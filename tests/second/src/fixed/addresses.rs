@@ -41,11 +41,15 @@ fn heard_addresses(sheet: &mut Sheet, bus: Bus) {
     }
 }
 
+/// Around the edges of the reserved addresses of both buses, and some between.
+const NEW_ADDRESSES: [u8; 23] =
+    [0, 1, 7, 8, 9, 15, 16, 64, 119, 120, 126, 127, 128, 129, 135, 136, 137, 200, 246, 247, 248, 254, 255];
+
 fn set_address(sheet: &mut Sheet, bus: Bus) {
-    title(sheet, "set_address_every_address", bus);
+    title(sheet, "set_address_then_both_addresses", bus);
     sheet.board(bus, 32, 128, 0);
     sheet.write(0, &image(70)[..26]);
-    for address in [0, 1, 7, 8, 9, 15, 16, 119, 120, 126, 127, 128, 129, 137, 200, 254, 255] {
+    for address in NEW_ADDRESSES {
         sheet.frame(8, &framed(bus, 8, SET_ADDRESS, &[address, 7]));
         for at in [address, address & 0x7f, 8] {
             sheet.read(at);

@@ -13,6 +13,7 @@ pub fn encoder(sheet: &mut Sheet) {
         every_code(sheet, bus);
         refusal_2(sheet, bus);
         refusal_7(sheet, bus);
+        reserved_addresses(sheet, bus);
         refusal_6(sheet, bus);
         encoder_order(sheet, bus);
     }
@@ -22,7 +23,8 @@ fn every_code(sheet: &mut Sheet, bus: Bus) {
     sheet.note("encode_every_code");
     sheet.room(256);
     for code in 0..=255u32 {
-        sheet.encode(bus, 64, code, 8, 0, 0, &[]);
+        let a = if code == 1 { 9 } else { 0 };
+        sheet.encode(bus, 64, code, 8, a, 0, &[]);
     }
     for m in [32, 256] {
         for code in [260, 262] {
@@ -57,7 +59,7 @@ fn refusal_7(sheet: &mut Sheet, bus: Bus) {
         sheet.encode(bus, 64, 6, to, 0, 0, &[1]);
     }
     sheet.note("encode_refusal_7_new_address_and_type");
-    for a in [0, 1, 126, 127, 128, 254, 255, 256, MOST] {
+    for a in [256, 257, 264, 65_536 + 8, MOST] {
         sheet.encode(bus, 64, 1, 8, a, 7, &[]);
     }
     for b in [0, 1, 254, 255, 256, 257, 65_536, MOST] {
@@ -82,6 +84,46 @@ fn refusal_7(sheet: &mut Sheet, bus: Bus) {
             sheet.encode(bus, m, 8, 8, 3, length, &[]);
         }
     }
+}
+
+/// New addresses that are reserved, and destinations, which may be.
+fn reserved_addresses(sheet: &mut Sheet, bus: Bus) {
+    sheet.note("encode_every_new_address");
+    sheet.room(256);
+    for a in 0..=255 {
+        sheet.encode(bus, 64, 1, 8, a, 7, &[]);
+    }
+    sheet.note("encode_reserved_new_address_with_types");
+    for a in [0, 3, 120, 127, 128, 136, 248, 255] {
+        for b in [0, 255, 256] {
+            sheet.encode(bus, 64, 1, 8, a, b, &[]);
+        }
+    }
+    sheet.note("encode_every_destination");
+    for to in 0..=255 {
+        sheet.encode(bus, 64, 0, to, 0, 0, &[]);
+    }
+    for to in [0, 3, 7, 120, 127, 128, 248, 250, 255] {
+        sheet.encode(bus, 64, 1, to, 20, 7, &[]);
+        sheet.encode(bus, 64, 1, to, 255, 7, &[]);
+        sheet.encode(bus, 64, 6, to, 0, 0, &[1, 2]);
+        sheet.encode(bus, 64, 8, to, 0, 5, &[]);
+    }
+    sheet.note("encode_flash_address_is_no_bus_address");
+    for a in [0, 7, 120, 248, 255] {
+        sheet.encode(bus, 64, 6, 8, a, 0, &[1, 2]);
+        sheet.encode(bus, 64, 8, 8, a, 5, &[]);
+    }
+    sheet.note("encode_order_2_7_6_with_reserved_new_address");
+    for faults in 0..8u32 {
+        let m = if faults & 1 != 0 { 31 } else { 32 };
+        let a = if faults & 2 != 0 { 0 } else { 9 };
+        for room in if faults & 4 != 0 { [0, 3] } else { [6, 64] } {
+            sheet.room(room);
+            sheet.encode(bus, m, 1, 8, a, 7, &[]);
+        }
+    }
+    sheet.room(256);
 }
 
 fn refusal_6(sheet: &mut Sheet, bus: Bus) {

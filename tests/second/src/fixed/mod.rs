@@ -6,6 +6,7 @@ mod examples;
 mod frames;
 mod master;
 mod refusals;
+mod reserved;
 mod uploads;
 mod writes;
 
@@ -18,6 +19,7 @@ pub fn all() -> Sheet {
     refusals::refusals(&mut sheet);
     frames::frames(&mut sheet);
     addresses::addresses(&mut sheet);
+    reserved::reserved_addresses(&mut sheet);
     addresses::general_calls(&mut sheet);
     commands::commands(&mut sheet);
     writes::writes(&mut sheet);
