@@ -1,6 +1,6 @@
 -- Document 01, "Proved examples", in one table with one statement. E1 to E12, the last three on both buses and at two offsets; the edges
 -- that it names as rows 13 to 19; a shorter upload over a longer one as row 20; the edges of the sizes (numbers 2 and 4) as rows 21 to 29;
--- the edges of the reserved addresses (W1) as rows 30 to 33.
+-- the edges of the reserved addresses (W1) as rows 30 to 34.
 use mathlib.Core.Bool.{Bool, false, cond}
 use mathlib.Core.List.{List, [], _∷_, _++_, map}
 use Prim.Native.Nat.{ℕ, _+_}
@@ -220,8 +220,10 @@ rows =
     (5 ∷ 5 ∷ 0 ∷ 0 ∷ 5 ∷ 5 ∷ 5 ∷ 5 ∷ 0 ∷ 0 ∷ 5 ∷ 5 ∷ [])
     -- on RS485
     ∷ row 31 (map (addressStatus Rs485) (0 ∷ 1 ∷ 247 ∷ 248 ∷ 255 ∷ [])) (5 ∷ 0 ∷ 0 ∷ 5 ∷ 5 ∷ [])
+    -- with another type there is no reply
+    ∷ row 32 (sentTo exampleBoard 8 (blank exampleBoard) 0x01 (0 ∷ 9 ∷ []) .number ∷ []) (1 ∷ [])
     -- numbers of the encoder, which drops no bit
-    ∷ row 32 (map (addressEncoded I2c) (0 ∷ 7 ∷ 8 ∷ 119 ∷ 120 ∷ 127 ∷ 128 ∷ 136 ∷ []))
+    ∷ row 33 (map (addressEncoded I2c) (0 ∷ 7 ∷ 8 ∷ 119 ∷ 120 ∷ 127 ∷ 128 ∷ 136 ∷ []))
     (7 ∷ 7 ∷ 0 ∷ 0 ∷ 7 ∷ 7 ∷ 7 ∷ 7 ∷ [])
-    ∷ row 33 (map (addressEncoded Rs485) (0 ∷ 1 ∷ 247 ∷ 248 ∷ 255 ∷ 256 ∷ [])) (7 ∷ 0 ∷ 0 ∷ 7 ∷ 7 ∷ 7 ∷ [])
+    ∷ row 34 (map (addressEncoded Rs485) (0 ∷ 1 ∷ 247 ∷ 248 ∷ 255 ∷ 256 ∷ [])) (7 ∷ 0 ∷ 0 ∷ 7 ∷ 7 ∷ 7 ∷ [])
     ∷ []

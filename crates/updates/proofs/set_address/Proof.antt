@@ -50,9 +50,9 @@ returns-2 c =
     let st = h .before .before .before .before in
     λ d.
     rw (
-      setAddress-outcomes (profileOf (st .args .p)) (view (st .args .s)) (st .args .args .now) d .refused
-      (sym (h .type-matches .ensures) ∙ not-false (h .type-matches .result) (e .if1 .left))
-      (sym (rw (a .address-taken .ensures) at (r .reserved .ensures)) ∙ i .if2 .taken)
+    setAddress-outcomes (profileOf (st .args .p)) (view (st .args .s)) (st .args .args .now) d .refused
+    (sym (h .type-matches .ensures) ∙ not-false (h .type-matches .result) (e .if1 .left))
+    (sym (rw (a .address-taken .ensures) at (r .reserved .ensures)) ∙ i .if2 .taken)
     )
     (c .before .before .reply .ensures d)
 
@@ -80,8 +80,8 @@ returns-3 c =
     λ d.
     rw (
       setAddress-outcomes (profileOf (st .args .p)) (view (st .args .s)) (st .args .args .now) d .taken
-      (sym (h .type-matches .ensures) ∙ not-false (h .type-matches .result) (e .if1 .left))
-      (sym (rw (a .address-taken .ensures) at (r .reserved .ensures)) ∙ i .if2 .left),
+          (sym (h .type-matches .ensures) ∙ not-false (h .type-matches .result) (e .if1 .left))
+          (sym (rw (a .address-taken .ensures) at (r .reserved .ensures)) ∙ i .if2 .left),
       ← a .address-taken .ensures,
     )
     (rw (w .with-address .ensures) at (c .before .before .reply2 .ensures d))
