@@ -33,6 +33,12 @@ static bool served(uint32_t code)
     return code < COMMANDS && rows[code].served;
 }
 
+/* A new address that no board takes. */
+static bool reserved(uint32_t bus, uint32_t a)
+{
+    return bus == PLAIN_I2C ? a < 8 || a > 119 : a == 0 || a > 247;
+}
+
 uint8_t plain_crc8(const uint8_t *bytes, size_t len)
 {
     uint32_t crc = 0xff;
@@ -180,12 +186,18 @@ static bool obey(const struct plain_profile *p, struct plain_state *s, uint8_t c
         results[1] = 2;
         *results_len = 2;
         return true;
-    case SET_ADDRESS:
+    case SET_ADDRESS: {
+        uint8_t own = p->bus == PLAIN_I2C ? args[0] & 0x7f : args[0];
         if (args[1] != 0 && args[1] != p->hardware)
             return false;
+        if (reserved(p->bus, own)) {
+            *status = INVALID_ARGUMENTS;
+            return true;
+        }
         s->has_address = true;
-        s->address = p->bus == PLAIN_I2C ? args[0] & 0x7f : args[0];
+        s->address = own;
         return true;
+    }
     case HARDWARE_INFO:
         results[0] = p->hardware;
         results[1] = p->compatible;
@@ -341,7 +353,7 @@ uint32_t plain_encode(uint32_t bus, uint32_t longest, uint32_t code, uint32_t de
 
     size_t args_len = rows[code].shortest;
     if (code == SET_ADDRESS) {
-        if (a > last_address || b > 255)
+        if (reserved(bus, a) || b > 255)
             return 7;
     } else if (code == WRITE) {
         if (a > 65535 || data_len > longest - (bus == PLAIN_I2C ? 4 : 6))

@@ -57,7 +57,7 @@ extern "C" {
 
 /* Commands. 0x02, 0x0a, 0x0b, 0x0d, 0x0e and all above are not served. */
 #define CHILDBUS_CMD_VERSION       0x00u  /* results: major, minor */
-#define CHILDBUS_CMD_SET_ADDRESS   0x01u  /* new address, hardware type (0: any) */
+#define CHILDBUS_CMD_SET_ADDRESS   0x01u  /* new address, not a reserved one; hardware type (0: any) */
 #define CHILDBUS_CMD_HARDWARE_INFO 0x03u  /* results: type and compatible revision, bootloader version, two-byte S */
 #define CHILDBUS_CMD_SERIAL        0x04u  /* results: the serial */
 #define CHILDBUS_CMD_START         0x05u  /* starts the application: no reply */
@@ -70,7 +70,8 @@ extern "C" {
 #define CHILDBUS_I2C   0u
 #define CHILDBUS_RS485 1u
 
-/* The general call's address, and the range in which a board without an address of its own listens. */
+/* The general call's address, and the range in which a board without an address of its own listens. Set address refuses
+ * reserved addresses: 0 to 7 and 120 to 127 on I2C, 0 and 248 to 255 on RS485. */
 #define CHILDBUS_GENERAL_CALL  0u
 #define CHILDBUS_DEFAULT_FIRST 8u
 #define CHILDBUS_DEFAULT_LAST 15u
@@ -171,6 +172,11 @@ uint32_t childbus_fresh(uint8_t *state, size_t state_len);
  * After each call look at state[CHILDBUS_STATE_RUNNING]: start answers 1, like many other frames, and this byte alone
  * tells it apart. When it has become 1, start the application; bytes that waited are lost by then. While it is 1 only
  * the general-call reset is executed, and makes it 0; any other frame answers 1 and changes nothing.
+ *
+ * Set address to a reserved address (0 to 7 and 120 to 127 on I2C, its top bit dropped; 0 and 248 to 255 on RS485) is
+ * answered with status INVALID_ARGUMENTS, after the hardware type is tested: another type gets no reply. Address and
+ * upload are kept, so on I2C that reply is read at the old address. A board whose state has such an address already
+ * listens there (at 0: to general calls only).
  */
 uint32_t childbus_receive(const uint8_t *profile, size_t profile_len, uint8_t *state, size_t state_len,
                           uint32_t address, const uint8_t *frame, size_t frame_len, uint8_t *flash, size_t flash_len,
@@ -197,7 +203,8 @@ uint32_t childbus_read(const uint8_t *profile, size_t profile_len, const uint8_t
  *   longest           the board's M
  *   code              the command
  *   destination       the board's address: 1 to 127 on I2C, 1 to 255 on RS485
- *   a, b              set address: a new address (to 127 on I2C, to 255 on RS485), b hardware type (to 255)
+ *   a, b              set address: a new address (8 to 119 on I2C, 1 to 247 on RS485: the others are reserved, or over
+ *                     the bus's range), b hardware type (to 255)
  *                     write: a flash address (to 65535)
  *                     read: a flash address (to 65535), b length (to M - 3 on I2C, to M - 5 on RS485)
  *                     not looked at where nothing is said
@@ -206,8 +213,8 @@ uint32_t childbus_read(const uint8_t *profile, size_t profile_len, const uint8_t
  *   made              the request's length with 0, else 0
  *
  * Answers 0: the request is the first *made bytes of out. 2: bus above 1, or M out of range. 7: a command that isn't
- * served, destination 0 or out of range, an argument out of range, a request over M. 6: the request is longer than
- * out_len. Tested in the order 2, 7, 6.
+ * served, destination 0 or out of range, an argument out of range, a reserved new address, a request over M. 6: the
+ * request is longer than out_len. Tested in the order 2, 7, 6.
  */
 uint32_t childbus_encode(uint32_t bus, uint32_t longest, uint32_t code, uint32_t destination, uint32_t a, uint32_t b,
                          const uint8_t *data, size_t data_len, uint8_t *out, size_t out_len, size_t *made);

@@ -1,7 +1,7 @@
 /*
- * An example master over childbus.h, and the program: on each bus it finds the board, gives it an address, uploads an image,
- * finalizes, reads it back, compares, uploads once more, and starts the application. Master and board share nothing but
- * the bytes on the bus, which are `exchange` below. Ends with status 0 if all went as it should.
+ * An example master over childbus.h, and the program: on each bus it finds the board, gives it an address, tries a reserved
+ * one, uploads an image, finalizes, reads it back, compares, uploads once more, and starts the application. Master and board
+ * share nothing but the bytes on the bus, which are `exchange` below. Ends with status 0 if all went as it should.
  */
 #include <stdbool.h>
 #include <stdio.h>
@@ -101,6 +101,33 @@ static void read_back(struct master *master, const uint8_t *image, size_t size)
     printf("  read back %zu bytes: equal to the image\n", size);
 }
 
+/* The encoder's number for a set address. */
+static uint32_t encoded(const struct master *master, uint32_t new_address)
+{
+    static const uint8_t none[1];
+    uint8_t request[CHILDBUS_FRAME_MAX];
+    size_t len;
+    return childbus_encode(master->bus, master->longest, CHILDBUS_CMD_SET_ADDRESS, ADDRESS, new_address, 0, none, 0,
+                           request, sizeof request, &len);
+}
+
+/* Address 0 is reserved: the encoder makes no such request, and the board refuses one that is made by hand (type 0: any). */
+static void try_reserved(struct master *master)
+{
+    static const uint8_t i2c[] = {0x01, 0, 0, 0x40}, rs485[] = {ADDRESS, 0x01, 0, 0, 0x52, 0x78};
+    const bool on_i2c = master->bus == CHILDBUS_I2C;
+    uint32_t status;
+    size_t start, len;
+
+    if (encoded(master, 0) != CHILDBUS_ARGUMENT_OUT_OF_RANGE || encoded(master, on_i2c ? 8 : 1) != CHILDBUS_MADE)
+        fail("the encoder takes reserved addresses, or refuses others");
+    size_t got = exchange(master, ADDRESS, on_i2c ? i2c : rs485, on_i2c ? sizeof i2c : sizeof rs485);
+    if (childbus_decode(master->bus, CHILDBUS_CMD_SET_ADDRESS, ADDRESS, 0, master->reply, got, &status, &start, &len) !=
+            CHILDBUS_MADE || status != CHILDBUS_INVALID_ARGUMENTS)
+        fail("the board took a reserved address");
+    printf("  address 0: refused by encoder and board\n");
+}
+
 static void run_master(struct board *board, uint32_t bus, const uint8_t *image)
 {
     struct master master = {.board = board, .bus = bus, .longest = CHILDBUS_FRAME_MIN};
@@ -128,6 +155,7 @@ static void run_master(struct board *board, uint32_t bus, const uint8_t *image)
     printf("  longest frame %u\n", (unsigned)master.longest);
     ask(&master, CHILDBUS_CMD_SET_ADDRESS, CHILDBUS_DEFAULT_FIRST, ADDRESS, type, &len);
     printf("  address set to %u\n", (unsigned)ADDRESS);
+    try_reserved(&master); /* it still listens there */
     r = ask(&master, CHILDBUS_CMD_SERIAL, ADDRESS, 0, 0, &len);
     printf("  serial %.*s\n", (int)len, (const char *)r);
 

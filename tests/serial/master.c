@@ -131,6 +131,8 @@ static void whole_run(void)
 
     send_request("set address, another type", BYTES(FIRST, 0x01, OWN, 6));
     expect_silence("set address, another type");
+    expect_raw("set address, reserved", BYTES(FIRST, 0x01, 0, 7), BYTES(FIRST, 5, 0, 0xf3, 0x52));
+    expect_raw("set address, reserved", BYTES(FIRST, 0x01, 248, 7), BYTES(FIRST, 5, 0, 0xf3, 0x52));
     expect("set address", BYTES(FIRST, 0x01, OWN, 7), BYTES(FIRST, 0, 0));
     expect("version, new address", BYTES(OWN, 0x00), BYTES(OWN, 0, 2, 2, 2));
     send_request("foreign address", BYTES(FIRST, 0x00));

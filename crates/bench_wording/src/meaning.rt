@@ -1,4 +1,5 @@
 // What a number, a status and a silence mean, and what to do about them. docs/NUMBERS.md has all of them at length.
+use addressing::reserved;
 use alarms::ignored;
 use bench_output::as_usize;
 use bench_output::say;
@@ -50,12 +51,37 @@ pub fn tell_status(status: u8) {
     do: ask for something else|INVALID_TRANSFER: the frame has under 2 or over M bytes
     do: send it whole, or in shorter frames|INVALID_CRC: the check sum is wrong, the board is alive
     do: send the frame again|INVALID_ARGUMENTS: not allowed for this command; nothing was done
-    do: ",
+",
     );
 }
 
-// What to do about INVALID_ARGUMENTS, by command. Piece 0 is a write's, piece 1 a read's, piece 2 any other's.
-pub fn tell_arguments_advice(code: usize) {
+// The reserved addresses of a bus.
+fn tell_reserved(bus: Bus) {
+    match bus {
+        Bus::I2c => say(b"on I2C no board may have 0 to 7 or 120 to 127\n"),
+        Bus::Rs485 => say(b"on RS485 no board may have 0 or 248 to 255\n"),
+    }
+}
+
+// The addresses to give to boards. Those of the default range are allowed too, but other boards listen there.
+fn tell_choice(bus: Bus) {
+    match bus {
+        Bus::I2c => say(b"choose 16 to 119"),
+        Bus::Rs485 => say(b"choose 1 to 7 or 16 to 247"),
+    }
+    say(b"; boards without an address of their own listen to 8 to 15\n");
+}
+
+// Why the board refused a set address, and what to do.
+fn tell_address_refused(bus: Bus) {
+    say(b"    wrong: not two argument bytes, or a reserved address: ");
+    tell_reserved(bus);
+    say(b"    the board stays at its address\n    do: send address and type; ");
+    tell_choice(bus);
+}
+
+// What to do about INVALID_ARGUMENTS to other commands. Piece 0 is a write's, piece 1 a read's, piece 2 any other's.
+fn tell_arguments_advice(code: usize) {
     let piece = match code {
         0x06 => 0,
         0x08 => 1,
@@ -63,11 +89,19 @@ pub fn tell_arguments_advice(code: usize) {
     };
     say_piece(
         piece,
-        b"a write goes to 0 or to the next address, and ends within S; one that was taken already is refused
-|ask for bytes within S, and for no more than a reply holds
-|look at the number of argument bytes and at their limits
+        b"    do: a write goes to 0 or to the next address, and ends within S; one that was taken already is refused
+|    do: ask for bytes within S, and for no more than a reply holds
+|    do: look at the number of argument bytes and at their limits
 ",
     );
+}
+
+// What INVALID_ARGUMENTS means, and what to do about it, by command.
+pub fn tell_refused_arguments(bus: Bus, code: usize) {
+    match code {
+        0x01 => tell_address_refused(bus),
+        _ => tell_arguments_advice(code),
+    }
 }
 
 // The reason of a silence, as a piece of the texts below: set address for another type, start, or another command.
@@ -175,6 +209,21 @@ fn is_over(text: &[u8], n: usize, most: usize) -> bool {
     true
 }
 
+// A new address that is reserved: whether it is.
+fn is_reserved(bus: Bus, a: usize) -> bool {
+    if !reserved(bus, a) {
+        return false;
+    }
+    tell(b"    wrong: address % is reserved: ", a);
+    tell_reserved(bus);
+    if a == 0 {
+        say(b"    a board at 0 would hear general calls only\n");
+    }
+    say(b"    do: ");
+    tell_choice(bus);
+    true
+}
+
 // The largest address on a bus.
 fn last_address(bus: Bus) -> usize {
     match bus {
@@ -211,6 +260,7 @@ fn tell_argument(bus: Bus, longest: usize, r: Request, n: usize) -> bool {
                 address,
                 last_address(bus),
             )
+                || is_reserved(bus, address)
                 || is_over(b"    wrong: type %: at most %\n", hardware, 255)
         }
         Request::Write { address } => {
@@ -270,7 +320,7 @@ fn tell_again(bus: Bus, code: usize) {
 |    do: begin the upload again at 0: the board may have taken this write, and then refuses it a second time
 |    do: finalize again: it erases nothing twice, and tells the same count
 |    do: ask again: that changes nothing
-|    do: read once more at the new address, with i2c-read and that address: the board has kept the reply there
+|    do: read once more at the new address, with i2c-read and that address: the board has kept the reply there, a refusal at the old one
 ",
     );
 }

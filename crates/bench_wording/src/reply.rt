@@ -106,11 +106,11 @@ fn tell_results(code: usize, s: &[u8]) {
 }
 
 // A decoded reply: status and results.
-fn tell_reply(code: usize, status: u8, results: &[u8]) {
+fn tell_reply(bus: Bus, code: usize, status: u8, results: &[u8]) {
     meaning::tell_status(status);
     match status {
         0 => tell_results(code, results),
-        5 => meaning::tell_arguments_advice(code),
+        5 => meaning::tell_refused_arguments(bus, code),
         _ => say(b"\n"),
     }
 }
@@ -154,7 +154,7 @@ pub fn decode_reply(asked: Asked, reply: &[u8]) -> RequestResult {
     };
     let results = part(reply, start, len);
     if asked.verbose || status != 0 {
-        tell_reply(code, status, results);
+        tell_reply(bus, code, status, results);
     }
     RequestResult {
         status: as_usize(status),
