@@ -5,27 +5,31 @@
 """
 import os
 import pty
+import select
+import subprocess
 import sys
 
 
 def typed(bench, lines):
-    """What stands on the terminal after the lines were typed, each after its prompt, and the bench's exit status."""
-    pid, fd = pty.fork()
-    if pid == 0:
-        os.execv(bench, [bench])
+    """What stands on the terminal after the lines were typed, each after its prompt, and the bench's exit status.
+
+    This side keeps the terminal open, so that what was written last is not lost when the bench ends.
+    """
+    here, there = pty.openpty()
+    child = subprocess.Popen([bench], stdin=there, stdout=there, stderr=there, start_new_session=True)
     out = b""
     lines = list(lines)
     while True:
-        if lines and out.endswith(b"> "):
-            os.write(fd, lines.pop(0))
-        try:
-            more = os.read(fd, 4096)
-        except OSError:
+        ended = child.poll() is not None
+        if select.select([here], [], [], 0.2)[0]:
+            out += os.read(here, 4096)
+            if lines and out.endswith(b"> "):
+                os.write(here, lines.pop(0))
+        elif ended:
             break
-        if not more:
-            break
-        out += more
-    return out.replace(b"\r\n", b"\n").decode(), os.waitpid(pid, 0)[1]
+    os.close(here)
+    os.close(there)
+    return out.replace(b"\r\n", b"\n").decode(), child.returncode
 
 
 def main():
