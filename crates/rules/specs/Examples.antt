@@ -111,13 +111,13 @@ abbrev pub givenTo : Profile → State → ℕ
 givenTo p s = refusal p s 128 256
 
 -- the status of the fresh board's reply to set address, with its own type
-abbrev pub addressStatus : Bus → ℕ → ℕ
-addressStatus bus address =
+abbrev pub exampleStatus : Bus → ℕ → ℕ
+exampleStatus bus address =
     getD (sentTo (exampleAt bus 0) 8 (blank (exampleAt bus 0)) 0x01 (address ∷ 1 ∷ []) .reply) (headerLength bus) 6
 
 -- the number of a set address that is encoded for a bus
-abbrev pub addressEncoded : Bus → ℕ → ℕ
-addressEncoded bus address = encoded bus 256 (SetAddress address 1) 8 [] 256 .number
+abbrev pub exampleNumber : Bus → ℕ → ℕ
+exampleNumber bus address = encoded bus 256 (SetAddress address 1) 8 [] 256 .number
 
 -- the erase count that a call left
 abbrev pub countAfter : Called → ℕ
@@ -216,14 +216,14 @@ rows =
     (stateAt 0 0 0 1) ∷ [])
     (0 ∷ 4 ∷ 4 ∷ [])
     -- W1: statuses of set address to 0, 7, 8, 119, 120, 127; 128 and 135 are 0 and 7 without their top bit, 136 and 247 are 8 and 119
-    ∷ row 30 (map (addressStatus I2c) (0 ∷ 7 ∷ 8 ∷ 119 ∷ 120 ∷ 127 ∷ 128 ∷ 135 ∷ 136 ∷ 247 ∷ 248 ∷ 255 ∷ []))
+    ∷ row 30 (map (exampleStatus I2c) (0 ∷ 7 ∷ 8 ∷ 119 ∷ 120 ∷ 127 ∷ 128 ∷ 135 ∷ 136 ∷ 247 ∷ 248 ∷ 255 ∷ []))
     (5 ∷ 5 ∷ 0 ∷ 0 ∷ 5 ∷ 5 ∷ 5 ∷ 5 ∷ 0 ∷ 0 ∷ 5 ∷ 5 ∷ [])
     -- on RS485
-    ∷ row 31 (map (addressStatus Rs485) (0 ∷ 1 ∷ 247 ∷ 248 ∷ 255 ∷ [])) (5 ∷ 0 ∷ 0 ∷ 5 ∷ 5 ∷ [])
+    ∷ row 31 (map (exampleStatus Rs485) (0 ∷ 1 ∷ 247 ∷ 248 ∷ 255 ∷ [])) (5 ∷ 0 ∷ 0 ∷ 5 ∷ 5 ∷ [])
     -- with another type there is no reply
     ∷ row 32 (sentTo exampleBoard 8 (blank exampleBoard) 0x01 (0 ∷ 9 ∷ []) .number ∷ []) (1 ∷ [])
     -- numbers of the encoder, which drops no bit
-    ∷ row 33 (map (addressEncoded I2c) (0 ∷ 7 ∷ 8 ∷ 119 ∷ 120 ∷ 127 ∷ 128 ∷ 136 ∷ []))
+    ∷ row 33 (map (exampleNumber I2c) (0 ∷ 7 ∷ 8 ∷ 119 ∷ 120 ∷ 127 ∷ 128 ∷ 136 ∷ []))
     (7 ∷ 7 ∷ 0 ∷ 0 ∷ 7 ∷ 7 ∷ 7 ∷ 7 ∷ [])
-    ∷ row 34 (map (addressEncoded Rs485) (0 ∷ 1 ∷ 247 ∷ 248 ∷ 255 ∷ 256 ∷ [])) (7 ∷ 0 ∷ 0 ∷ 7 ∷ 7 ∷ 7 ∷ [])
+    ∷ row 34 (map (exampleNumber Rs485) (0 ∷ 1 ∷ 247 ∷ 248 ∷ 255 ∷ 256 ∷ [])) (7 ∷ 0 ∷ 0 ∷ 7 ∷ 7 ∷ 7 ∷ [])
     ∷ []
