@@ -232,6 +232,14 @@ fn last_address(bus: Bus) -> usize {
     }
 }
 
+// The largest address that a board may have.
+fn last_free_address(bus: Bus) -> usize {
+    match bus {
+        Bus::I2c => 119,
+        Bus::Rs485 => 247,
+    }
+}
+
 // How many of `longest` bytes are left beside so many others.
 fn beside(longest: usize, others: usize) -> usize {
     if longest < others {
@@ -255,12 +263,12 @@ pub fn longest_read(bus: Bus, longest: usize) -> usize {
 fn tell_argument(bus: Bus, longest: usize, r: Request, n: usize) -> bool {
     match r {
         Request::SetAddress { address, hardware } => {
-            is_over(
-                b"    wrong: address %: at most % here\n",
-                address,
-                last_address(bus),
-            )
-                || is_reserved(bus, address)
+            is_reserved(bus, address)
+                || is_over(
+                    b"    wrong: address %: at most % here\n",
+                    address,
+                    last_free_address(bus),
+                )
                 || is_over(b"    wrong: type %: at most %\n", hardware, 255)
         }
         Request::Write { address } => {

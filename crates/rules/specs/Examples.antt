@@ -110,10 +110,14 @@ stateAt next w count k = record {
 abbrev pub givenTo : Profile → State → ℕ
 givenTo p s = refusal p s 128 256
 
--- the status of the fresh board's reply to set address, with its own type
+-- the status of the fresh board's reply to set address, with its own type; 6 for no reply
 abbrev pub exampleStatus : Bus → ℕ → ℕ
 exampleStatus bus address =
     getD (sentTo (exampleAt bus 0) 8 (blank (exampleAt bus 0)) 0x01 (address ∷ 1 ∷ []) .reply) (headerLength bus) 6
+
+-- the number of the fresh board's answer to set address, with a type
+abbrev pub exampleAnswer : ℕ → ℕ → ℕ
+exampleAnswer address hardware = sentTo exampleBoard 8 (blank exampleBoard) 0x01 (address ∷ hardware ∷ []) .number
 
 -- the number of a set address that is encoded for a bus
 abbrev pub exampleNumber : Bus → ℕ → ℕ
@@ -220,8 +224,8 @@ rows =
     (5 ∷ 5 ∷ 0 ∷ 0 ∷ 5 ∷ 5 ∷ 5 ∷ 5 ∷ 0 ∷ 0 ∷ 5 ∷ 5 ∷ [])
     -- on RS485
     ∷ row 31 (map (exampleStatus Rs485) (0 ∷ 1 ∷ 247 ∷ 248 ∷ 255 ∷ [])) (5 ∷ 0 ∷ 0 ∷ 5 ∷ 5 ∷ [])
-    -- with another type there is no reply
-    ∷ row 32 (sentTo exampleBoard 8 (blank exampleBoard) 0x01 (0 ∷ 9 ∷ []) .number ∷ []) (1 ∷ [])
+    -- type 0 is any; with another type there is no reply, whatever the address
+    ∷ row 32 (exampleAnswer 9 0 ∷ exampleAnswer 9 9 ∷ exampleAnswer 0 9 ∷ []) (0 ∷ 1 ∷ 1 ∷ [])
     -- numbers of the encoder, which drops no bit
     ∷ row 33 (map (exampleNumber I2c) (0 ∷ 7 ∷ 8 ∷ 119 ∷ 120 ∷ 127 ∷ 128 ∷ 136 ∷ []))
     (7 ∷ 7 ∷ 0 ∷ 0 ∷ 7 ∷ 7 ∷ 7 ∷ 7 ∷ [])
