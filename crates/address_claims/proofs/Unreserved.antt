@@ -18,6 +18,7 @@ use Rattle.rules.specs.Commands.{accepted, readable, written, finished, shown, 
 use Rattle.rules.specs.Board.{replied, finishedCall, handled, received}
 use Rattle.laws.proofs.TestLaws.{by-test}
 use Rattle.laws.proofs.CommandLaws.{setAddress-cases, executed-cases}
+use Rattle.laws.proofs.AddressLaws.{taken-fits}
 use Rattle.laws.proofs.BoardLaws.{withReply-address, received-handled, received-refused, readOut-state}
 use Rattle.ledger.specs.Calls.{Call, Frame, Read, ruled, calls}
 use Rattle.address_claims.specs.Addresses.{unreserved, keptAfter, NeverReserved}
@@ -55,7 +56,7 @@ module _ (p : Profile) (s : State) (kept : unreserved (p .bus) (s .address) ≡ 
         wrong-length = kept;
         version = λ is h. kept;
         address = λ is h.
-            setAddress-cases p s args d Leaves (record { foreign = λ e. kept; refused = λ e r. kept; taken = λ e r. rw r });
+            setAddress-cases p s args d Leaves (record { foreign = λ e. kept; refused = λ e r. kept; taken = λ e r. rw (taken-fits (p .bus) (getD args 0 0), r) });
         info = λ is h. kept;
         serial = λ is h. by-test (eqb (length (p .serial)) 0) (λ e. rw e kept) (λ e. rw e kept);
         start = λ is h. kept;

@@ -1,6 +1,6 @@
 -- W1: what set address does, and that no board comes to a reserved address.
 use mathlib.Core.Path.{_≡_}
-use mathlib.Core.Bool.{Bool, true, cond, not}
+use mathlib.Core.Bool.{Bool, true, cond, not, _&&_}
 use mathlib.Core.List.{List, [], _∷_}
 use Prim.Native.Nat.{ℕ}
 use lib.ListN.{length}
@@ -11,7 +11,7 @@ use Rattle.rules.specs.declared.kinds.Address.the-variants.{DefaultRange, Own}
 use Rattle.rules.specs.Profile.{Profile}
 use Rattle.rules.specs.State.{State, withAddress}
 use Rattle.rules.specs.Numbers.{refusal}
-use Rattle.rules.specs.Frames.{destination, commandOf, argumentsOf}
+use Rattle.rules.specs.Frames.{addressFits, destination, commandOf, argumentsOf}
 use Rattle.rules.specs.Responses.{replying, ok, invalidArguments}
 use Rattle.rules.specs.Commands.{addressTaken, reserved, typeMatches}
 use Rattle.rules.specs.Board.{Called, nothing, withReply, finishedCall, received, readOut}
@@ -34,18 +34,18 @@ SetAddressAnswered =
     → wellFramed p (pastOf s) a f ≡ true → commandOf (p .bus) f ≡ 0x01 → argumentsOf (p .bus) f ≡ address ∷ hardware ∷ []
     → received p s a f d n ≡ addressAnswer p s (destination (p .bus) a f) d address hardware
 
--- none of the reserved addresses; the default range has none of them
+-- an address of the bus and none of the reserved; the default range has only such
 abbrev pub unreserved : Bus → Address → Bool
 unreserved bus DefaultRange = true
-unreserved bus (Own a) = not (reserved bus a)
+unreserved bus (Own a) = addressFits bus a && not (reserved bus a)
 
 -- what a board keeps after a list of calls, each on what the last one left
 unfoldable pub keptAfter : (B : Board) → Profile → B .Kept → List ℕ → List Call → B .Kept
 keptAfter B p s d [] = s
 keptAfter B p s d (c ∷ cs) = let r : Reaction (B .Kept) = B .call p s d c in keptAfter B p (r .state) (r .flash) cs
 
--- over any board, by the address that it keeps: for every list of calls from the fresh board with any flash, under any profile, its own
--- address is none of the reserved
+-- over any board, by the address that it keeps: for every list of calls from the fresh board with any flash, under any profile, an own
+-- address is one of the bus and none of the reserved
 abbrev pub NeverReserved : (B : Board) → (B .Kept → Address) → Type 0
 NeverReserved B address = (p : Profile) (d : List ℕ) (cs : List Call) → unreserved (p .bus) (address (keptAfter B p (B .fresh) d cs)) ≡ true
 

@@ -227,6 +227,16 @@ refusesAddresses test =
     (replying (withAddress s (Own (addressTaken (p .bus) (getD args 0 0)))) d ok []))
     (executed p s code args d))
 
+-- one that takes the address with its top bit
+abbrev pub keepsTopBit : Board
+keepsTopBit =
+    ruledBy (λ p s code args d.
+    let a : Acted = executed p s code args d in
+    let moved : State = withAddress (a .state) (Own (getD args 0 0)) in
+    cond (eqb code 0x01 && not (reserved (p .bus) (addressTaken (p .bus) (getD args 0 0))))
+    (record { response = a .response; state = moved; flash = a .flash })
+    a)
+
 -- one that tests the address before the type
 abbrev pub refusesForeignType : Board
 refusesForeignType =

@@ -16,7 +16,7 @@ ghost use Rattle.wrongboards.specs.WrongBoards.{fixedReply, padsLastPage
 ghost use Rattle.wrongboards.specs.WrongBoards.{finalizesOnStart, refusesFinalizes, changesReply, readsAs, obeysForeign};
 ghost use Rattle.wrongboards.specs.WrongBoards.{ignoresStart, takesForeignType, silentFaults, answersWrong, refusedErases};
 ghost use Rattle.wrongboards.specs.WrongBoards.{readsErase, writesOutside, growsFlash, erasesRunning, showsCount, countsWrites};
-ghost use Rattle.wrongboards.specs.WrongBoards.{refusesAddresses, refusesForeignType, refusesAndMoves};
+ghost use Rattle.wrongboards.specs.WrongBoards.{refusesAddresses, refusesForeignType, refusesAndMoves, keepsTopBit};
 
 // The variations that the wrong boards are made by are right themselves: with the rules' own parts they are the board of the rules.
 pub fn varied_right()
@@ -175,9 +175,9 @@ pub fn takes_reserved()
         × (NeverReserved (refusesAddresses (λ bus a. ltb a 7)) (λ s. s .address) → ⊥) ⌝ }
 {}
 
-// A reserved address that is refused and taken: the same.
+// A reserved address that is refused and taken, and an address that is taken with its top bit on I²C: the same.
 pub fn refuses_and_moves()
-    ensures { λ _. ⌜ (NeverReserved refusesAndMoves (λ s. s .address) → ⊥) ⌝ }
+    ensures { λ _. ⌜ (NeverReserved refusesAndMoves (λ s. s .address) → ⊥) × (NeverReserved keepsTopBit (λ s. s .address) → ⊥) ⌝ }
 {}
 
 // A board that refuses 247 on RS485, or 119 on I²C: demand 2, set address to any other than a reserved one is taken.
