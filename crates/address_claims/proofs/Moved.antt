@@ -67,9 +67,9 @@ module _ (p : Profile) (s : State) (a : ℕ) (f d : List ℕ) (i : p .bus ≡ I2
   abbrev Ends : Called → Type 0
   Ends c = answeredOk I2c 0x01 f (c .number) (c .reply) ≡ true → Took f c
 
-  -- nothing to send
-  silent : (c : Called) → c .number ≡ 1 → Ends c
-  silent c one said =
+  -- nothing to send, or a refusal
+  silent : (c : Called) → 1 ≤ c .number → Ends c
+  silent c least said =
       let answered = &&-true (eqb (c .number) 0) (eqb (getD (c .reply) 0 1) 0)
       (&&-true (eqb (getD f 0 0) 0x01) (eqb (c .number) 0 && eqb (getD (c .reply) 0 1) 0) said .1) .0 in
       absurd (omega (arith, eqb-true (c .number) 0 answered))
@@ -105,7 +105,7 @@ module _ (p : Profile) (s : State) (a : ℕ) (f d : List ℕ) (i : p .bus ≡ I2
         address = λ is h.
             setAddress-cases p s (argumentsOf (p .bus) f) d (λ (act : Acted). Ends (finishedCall (p .bus) to act))
             (record {
-              foreign = λ e. silent (finishedCall (p .bus) to (record { response = NoReply; state = s; flash = d })) refl;
+              foreign = λ e. silent (finishedCall (p .bus) to (record { response = NoReply; state = s; flash = d })) (omega arith);
               refused = λ e r. other-status invalidArguments (omega arith);
               taken = λ e r. took stopped r;
             });
@@ -127,9 +127,9 @@ module _ (p : Profile) (s : State) (a : ℕ) (f d : List ℕ) (i : p .bus ≡ I2
 
   framed-ends : s .running ≡ false → (v : Verdict) → Ends (handled p s a f d v)
   unfolding handled
-  framed-ends stopped Reset = silent _ refl
-  framed-ends stopped ResetAddress = silent _ refl
-  framed-ends stopped (Ignored reason) = silent _ refl
+  framed-ends stopped Reset = silent _ (omega arith)
+  framed-ends stopped ResetAddress = silent _ (omega arith)
+  framed-ends stopped (Ignored reason) = silent _ (omega arith)
   framed-ends stopped BadTransfer = other-status invalidTransfer (omega arith)
   framed-ends stopped BadSum = other-status invalidCrc (omega arith)
   framed-ends stopped Command = executed-ends stopped
@@ -139,17 +139,11 @@ module _ (p : Profile) (s : State) (a : ℕ) (f d : List ℕ) (i : p .bus ≡ I2
   handled-ends =
       verdict-cases (p .bus) (p .longest) (s .running) (s .address) a f (λ (v : Verdict). Ends (handled p s a f d v))
       (record {
-        reset = λ g. silent _ refl;
-        run = λ g running. silent _ refl;
-        reset-address = λ g stopped r. silent _ refl;
+        reset = λ g. silent _ (omega arith);
+        run = λ g running. silent _ (omega arith);
+        reset-address = λ g stopped r. silent _ (omega arith);
         framed = λ g stopped r. framed-ends stopped (framing (p .bus) (p .longest) (s .address) a f);
       })
-
-  -- a refused call answers 2 or above
-  refused-ends : (number : ℕ) → 2 ≤ number → Ends (refused number s d)
-  refused-ends number least said =
-      let answered = &&-true (eqb (getD f 0 0) 0x01) (eqb number 0 && eqb 1 0) said .1 in
-      absurd (omega (arith, eqb-true number 0 (&&-true (eqb number 0) (eqb 1 0) answered .0)))
 
 pub new-address-read : NewAddressRead
 new-address-read p s a f d n i said =
@@ -170,4 +164,4 @@ new-address-read p s a f d n i said =
     (λ e.
     let least = refusal-least p s (length d) n e in
     let told = received-refused p s d a f n (eqb-false (refusal p s (length d) n) 0 e) in
-    absurd (omega (arith, refused-ends p s a f d i (refusal p s (length d) n) least (rw told at said) .number-is)))
+    absurd (omega (arith, silent p s a f d i (refused (refusal p s (length d) n) s d) (omega arith) (rw told at said) .number-is)))

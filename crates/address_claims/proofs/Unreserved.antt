@@ -56,7 +56,12 @@ module _ (p : Profile) (s : State) (kept : unreserved (p .bus) (s .address) ≡ 
         wrong-length = kept;
         version = λ is h. kept;
         address = λ is h.
-            setAddress-cases p s args d Leaves (record { foreign = λ e. kept; refused = λ e r. kept; taken = λ e r. rw (taken-fits (p .bus) (getD args 0 0), r) });
+            setAddress-cases p s args d Leaves
+            (record {
+              foreign = λ e. kept;
+              refused = λ e r. kept;
+              taken = λ e r. rw (taken-fits (p .bus) (getD args 0 0), r);
+            });
         info = λ is h. kept;
         serial = λ is h. by-test (eqb (length (p .serial)) 0) (λ e. rw e kept) (λ e. rw e kept);
         start = λ is h. kept;
