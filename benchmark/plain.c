@@ -39,28 +39,36 @@ static bool reserved(uint32_t bus, uint32_t a)
     return bus == PLAIN_I2C ? a < 8 || a > 119 : a == 0 || a > 247;
 }
 
+/* Check sums by half bytes: entry i is the register after four bits, from i in the half that leaves first. */
+static const uint8_t crc8_table[16] = {
+    0x00, 0x07, 0x0e, 0x09, 0x1c, 0x1b, 0x12, 0x15, 0x38, 0x3f, 0x36, 0x31, 0x24, 0x23, 0x2a, 0x2d,
+};
+
+static const uint16_t crc16_table[16] = {
+    0x0000, 0xcc01, 0xd801, 0x1400, 0xf001, 0x3c00, 0x2800, 0xe401,
+    0xa001, 0x6c00, 0x7800, 0xb401, 0x5000, 0x9c01, 0x8801, 0x4400,
+};
+
 uint8_t plain_crc8(const uint8_t *bytes, size_t len)
 {
-    uint32_t crc = 0xff;
+    uint8_t crc = 0xff;
     for (size_t i = 0; i < len; i++) {
         crc ^= bytes[i];
-#pragma GCC unroll 8
-        for (int bit = 0; bit < 8; bit++)
-            crc = crc & 0x80 ? (crc << 1) ^ 0x07 : crc << 1;
+        crc = (uint8_t)(crc << 4) ^ crc8_table[crc >> 4];
+        crc = (uint8_t)(crc << 4) ^ crc8_table[crc >> 4];
     }
-    return (uint8_t)crc;
+    return crc;
 }
 
 uint16_t plain_crc16(const uint8_t *bytes, size_t len)
 {
-    uint32_t crc = 0xffff;
+    uint16_t crc = 0xffff;
     for (size_t i = 0; i < len; i++) {
         crc ^= bytes[i];
-#pragma GCC unroll 8
-        for (int bit = 0; bit < 8; bit++)
-            crc = crc & 1 ? (crc >> 1) ^ 0xa001 : crc >> 1;
+        crc = crc >> 4 ^ crc16_table[crc & 15];
+        crc = crc >> 4 ^ crc16_table[crc & 15];
     }
-    return (uint16_t)crc;
+    return crc;
 }
 
 /* Appends the check sum of the first len bytes and gives the whole length. */

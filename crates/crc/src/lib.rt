@@ -4,7 +4,9 @@
 use byte_slices::low_first;
 use byte_slices::matches;
 use crc_steps::crc8_byte;
+use crc_steps::crc8_table;
 use crc_steps::crc16_byte;
+use crc_steps::crc16_table;
 use frame_sizes::sum_length;
 use rules::kinds::Bus;
 ghost use mathlib.Core.Path.{_≡_};
@@ -15,10 +17,11 @@ ghost use Rattle.rules.specs.CheckSums.{crc, crc8, crc16, sum, sumLength, sumRi
 pub fn crc8(s: &[u8]) -> u8
     ensures { λ r. ⌜ r ≡ crc crc8 (now (s .entry)) ⌝ }
 {
+    let table = crc8_table();
     let mut v: u8 = 0xFF;
     let mut i = 0;
     while i < s.len() {
-        v = crc8_byte(v, s[i]);
+        v = crc8_byte(&table, v, s[i]);
         i += 1;
     }
     v
@@ -28,10 +31,11 @@ pub fn crc8(s: &[u8]) -> u8
 pub fn crc16(s: &[u8]) -> u16
     ensures { λ r. ⌜ r ≡ crc crc16 (now (s .entry)) ⌝ }
 {
+    let table = crc16_table();
     let mut v: u16 = 0xFFFF;
     let mut i = 0;
     while i < s.len() {
-        v = crc16_byte(v, s[i]);
+        v = crc16_byte(&table, v, s[i]);
         i += 1;
     }
     v

@@ -49,21 +49,18 @@ same-true (x ∷ xs) (y ∷ ys) e = go (same-true xs ys) (eqb x y) refl
         cc (eqb-true x y h, ih tail)
     go ih false h = let z : false ≡ true = rw h at e in cc
 
--- at a place where they differ
-pub same-here : (l m : List ℕ) (i : ℕ) → i < length l → i < length m → (getD l i 0 ≡ getD m i 0 → ⊥) → same (drop i l) (drop i m) ≡ false
+-- one place further, if none so far differed
+pub same-step : (so-far : Bool) (l m : List ℕ) (i : ℕ) → i < length l → i < length m
+    → (so-far && same (drop i l) (drop i m)) ≡ ((so-far && eqb (getD l i 0) (getD m i 0)) && same (drop (i + 1) l) (drop (i + 1) m))
 unfolding same
-same-here l m i hl hm ne = rw (drop-cons l i 0, drop-cons m i 0, ne-eqb _ _ ne)
-
--- past a place where they do not
-pub same-next : (l m : List ℕ) (i : ℕ) → i < length l → i < length m → getD l i 0 ≡ getD m i 0
-    → same (drop i l) (drop i m) ≡ same (drop (i + 1) l) (drop (i + 1) m)
-unfolding same
-same-next l m i hl hm e = rw (add-one, drop-cons l i 0, drop-cons m i 0, eq-eqb _ _ e)
+same-step true l m i hl hm = rw (add-one, drop-cons l i 0, drop-cons m i 0)
+same-step false l m i hl hm = refl
 
 -- two lists that are used up
-pub same-end : (l m : List ℕ) (i : ℕ) → length l ≤ i → length m ≤ i → same (drop i l) (drop i m) ≡ true
+pub same-end : (so-far : Bool) (l m : List ℕ) (i : ℕ) → length l ≤ i → length m ≤ i → (so-far && same (drop i l) (drop i m)) ≡ so-far
 unfolding same
-same-end l m i hl hm = rw (drop-of-length-le l hl, drop-of-length-le m hm)
+same-end true l m i hl hm = rw (drop-of-length-le l hl, drop-of-length-le m hm)
+same-end false l m i hl hm = refl
 
 -- lists of two lengths
 pub same-lengths : (l m : List ℕ) → (length l ≡ length m → ⊥) → same l m ≡ false

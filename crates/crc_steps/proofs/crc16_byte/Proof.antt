@@ -1,44 +1,20 @@
--- `crc_steps::crc16_byte` meets its contract: after k turns the register is k bits further. By `times-next`.
-use mathlib.Core.Path.{_≡_, sym, ap, _∙_}
-use Prim.Native.Nat.{_≤_, _-_}
-use native.Mathlib.Omega.{arith}
+-- `crc_steps::crc16_byte` meets its contract: by `two-halves`.
 use borrow.Author.Needs.{needs}
-use lib.Bits.{bitXor}
-use Rattle.rules.specs.CheckSums.{bit, byte, times, crc16}
-use Rattle.laws.proofs.CheckSumLaws.{times-next}
+use Rattle.crc_steps.specs.HalfBytes.{lowHalf}
+use Rattle.crc_steps.proofs.HalfByteLaws.{two-halves}
 use Rattle.crc_steps.proofs.crc16_byte.Statement.{statement}
 use Rattle.crc_steps.proofs.crc16_byte.Tie as tie
 
-abbrev Inv-loop : tie.InvT-loop
-Inv-loop r b v₀ k₀ v k = (k ≤ 8) × (v ≡ times k (bit crc16) (bitXor r b))
+crc16-half-requires : tie.Need-crc16-half-requires
+crc16-half-requires c κs = search needs
 
-abbrev μ-loop : tie.MeasureT-loop
-μ-loop r b v₀ k₀ v k = 8 - k
+crc16-half-requires-2 : tie.Need-crc16-half-requires-2
+crc16-half-requires-2 c κs = search needs
 
-loop-holds : tie.Need-loop-holds Inv-loop μ-loop
-loop-holds c = search needs
-
-crc16-bit-requires : tie.Need-crc16-bit-requires Inv-loop μ-loop
-crc16-bit-requires c κs = search needs
-
-add-k : tie.Need-add-k Inv-loop μ-loop
-add-k c = search needs
-
-loop-less : tie.Need-loop-less Inv-loop μ-loop
-loop-less c = search needs
-
-loop-again : tie.Need-loop-again Inv-loop μ-loop
-loop-again c =
-    let turn = c .before .before .loop in
-    (search needs, c .crc16-bit .ensures ∙ ap (bit crc16) (turn .inv .1) ∙ sym (times-next (turn .k) (bit crc16) _))
-
-returns : tie.Need-returns Inv-loop μ-loop
-unfolding byte
+returns : tie.Need-returns
 returns c =
-    let n : c .before .loop .k ≡ 8 = omega arith in
-    rw n at (c .before .loop .inv .1)
+    let start = c .before .before .args in
+    two-halves lowHalf (start .table .now) (start .r) (start .b) (c .before .crc16-half .ensures) (c .crc16-half2 .ensures)
 
 pub crc16-byte-spec : {M : Type 1} → statement M
-crc16-byte-spec =
-    tie.close
-    (tie.spec Inv-loop μ-loop loop-holds crc16-bit-requires add-k loop-less loop-again returns)
+crc16-byte-spec = tie.close (tie.spec crc16-half-requires crc16-half-requires-2 returns)
