@@ -2,9 +2,10 @@
 """Single changes of meaning in the rules; each must be noticed.
 
 Changes to board, model, master and sums run on the stored fixed cases: the
-output must differ from fixed.expected. Changes to the ledger, and some others
-again, run the check of board, ledger and master: it must fail. A change whose
-text is not found exactly once, or that does not build, is an error.
+output must differ from fixed.expected. Changes to the ledger and to the check
+sums bit by bit, and some others again, run the check of board, ledger, master
+and check sums: it must fail. A change whose text is not found exactly once, or
+that does not build, is an error.
 """
 import os
 import queue
@@ -15,7 +16,7 @@ import tempfile
 from concurrent.futures import ThreadPoolExecutor
 
 HERE = os.path.dirname(os.path.abspath(__file__))
-RULES = ["model", "sums", "board", "master", "script", "ledger", "check", "rng", "total"]
+RULES = ["model", "sums", "board", "master", "script", "ledger", "check", "rng", "total", "bits", "half_bytes"]
 SECONDS = 60
 WORKERS = 2
 
@@ -31,7 +32,7 @@ fn main() {
 }
 """
 CHECK_MAIN = """#![allow(dead_code)]
-mod board; mod ledger; mod check; mod master; mod model; mod rng; mod sums; mod total;
+mod bits; mod board; mod half_bytes; mod ledger; mod check; mod master; mod model; mod rng; mod sums; mod total;
 fn main() {
     if let Err(message) = check::all(3000, 3) {
         println!("{message}");
@@ -43,10 +44,6 @@ fn main() {
 # (file, name, old text, new text)
 MUTANTS = [
     # check sums
-    ("sums", "CRC-8 polynomial", "sum ^= 0x07;", "sum ^= 0x31;"),
-    ("sums", "CRC-8 start", "let mut sum: u8 = 0xff;", "let mut sum: u8 = 0x00;"),
-    ("sums", "CRC-16 polynomial", "sum ^= 0xa001;", "sum ^= 0x8408;"),
-    ("sums", "CRC-16 start", "let mut sum: u16 = 0xffff;", "let mut sum: u16 = 0;"),
     ("sums", "CRC-16 second byte not tested",
      "tail[0] == (sum & 0xff) as u8 && tail[1] == (sum >> 8) as u8", "tail[0] == (sum & 0xff) as u8"),
     ("sums", "CRC-16 first byte not tested",
@@ -281,6 +278,93 @@ RESERVED = [
      "    if request.code == 1 && reserved(bus, request.a) {\n        return Answer::only(7);\n    }\n" + ENCODER_2),
 ]
 
+
+def entries(start, step):
+    """Sixteen entries: four steps from start(i)."""
+    table = []
+    for i in range(16):
+        register = start(i)
+        for _ in range(4):
+            register = step(register)
+        table.append(register)
+    return table
+
+
+def left(bits, polynomial):
+    """A bit step, most significant bit first."""
+    mask = (1 << bits) - 1
+    return lambda r: ((r << 1) & mask) ^ (polynomial if r >> (bits - 1) else 0)
+
+
+def right(polynomial):
+    """A bit step, least significant bit first."""
+    return lambda r: (r >> 1) ^ (polynomial if r & 1 else 0)
+
+
+def other_table(name, bits, table):
+    """The change of a whole table: its name goes to another one."""
+    old = "pub const TABLE%d: [u%d; 16] =" % (bits, bits)
+    text = ", ".join(str(entry) for entry in table)
+    return "sums", name, old, "%s [%s];\nconst OLD%d: [u%d; 16] =" % (old, text, bits, bits)
+
+
+# check sums by half bytes
+HALVES_8 = "    let sum = half8(sum, byte >> 4);\n    half8(sum, byte & 0x0f)"
+HALVES_16 = "    let sum = half16(sum, byte & 0x0f);\n    half16(sum, byte >> 4)"
+MOVED_8 = "(sum << 4) ^ TABLE8"
+MOVED_16 = "(sum >> 4) ^ TABLE16"
+ENTRY_8 = "let entry = (sum >> 4) ^ half;"
+ENTRY_16 = "let entry = (sum & 0x0f) ^ u16::from(half);"
+HALF_BYTES = [
+    ("sums", "CRC-8 start", "let mut sum: u8 = 0xff;", "let mut sum: u8 = 0x00;"),
+    ("sums", "CRC-16 start", "let mut sum: u16 = 0xffff;", "let mut sum: u16 = 0;"),
+    other_table("CRC-8 polynomial", 8, entries(lambda i: i << 4, left(8, 0x31))),
+    other_table("CRC-16 polynomial", 16, entries(lambda i: i, right(0x8408))),
+    other_table("CRC-8 table of the reflected polynomial", 8, entries(lambda i: i, right(0xe0))),
+    other_table("CRC-16 table of the polynomial not reflected", 16, entries(lambda i: i << 12, left(16, 0x8005))),
+    other_table("CRC-8 table from the half that leaves last", 8, entries(lambda i: i, left(8, 0x07))),
+    other_table("CRC-16 table from the half that leaves last", 16, entries(lambda i: i << 12, right(0xa001))),
+    ("sums", "CRC-8 entry 6", "0x12,", "0x13,"),
+    ("sums", "CRC-8 entry 15", "0x2d]", "0x2f]"),
+    ("sums", "CRC-16 entry 9", "0x6c00,", "0x6c01,"),
+    ("sums", "CRC-16 entry 15", "0x4400,", "0xc400,"),
+    ("sums", "CRC-8 low half first", HALVES_8, "    let sum = half8(sum, byte & 0x0f);\n    half8(sum, byte >> 4)"),
+    ("sums", "CRC-16 high half first", HALVES_16, "    let sum = half16(sum, byte >> 4);\n    half16(sum, byte & 0x0f)"),
+    ("sums", "CRC-8 first half only", HALVES_8, "    half8(sum, byte >> 4)"),
+    ("sums", "CRC-16 first half only", HALVES_16, "    half16(sum, byte & 0x0f)"),
+    ("sums", "CRC-8 second half only", HALVES_8, "    half8(sum, byte & 0x0f)"),
+    ("sums", "CRC-16 second half only", HALVES_16, "    half16(sum, byte >> 4)"),
+    ("sums", "CRC-8 half of three bits", "half8(sum, byte & 0x0f)", "half8(sum, byte & 0x07)"),
+    ("sums", "CRC-16 half of three bits", "half16(sum, byte & 0x0f)", "half16(sum, byte & 0x07)"),
+    ("sums", "CRC-8 high half one bit too far", "half8(sum, byte >> 4)", "half8(sum, byte >> 5)"),
+    ("sums", "CRC-16 high half one bit too far", "half16(sum, byte >> 4)", "half16(sum, byte >> 5)"),
+    ("sums", "CRC-8 entry by the register's low half", ENTRY_8, "let entry = (sum & 0x0f) ^ half;"),
+    ("sums", "CRC-16 entry by the register's high half", ENTRY_16, "let entry = (sum >> 12) ^ u16::from(half);"),
+    ("sums", "CRC-16 entry not masked", ENTRY_16, "let entry = (sum ^ u16::from(half)).min(15);"),
+    ("sums", "CRC-8 half byte not entered", ENTRY_8, "let entry = sum >> 4;"),
+    ("sums", "CRC-16 half byte not entered", ENTRY_16, "let entry = sum & 0x0f;"),
+    ("sums", "CRC-8 moved part dropped", MOVED_8, "TABLE8"),
+    ("sums", "CRC-16 moved part dropped", MOVED_16, "TABLE16"),
+    ("sums", "CRC-8 moved the other way", MOVED_8, "(sum >> 4) ^ TABLE8"),
+    ("sums", "CRC-16 moved the other way", MOVED_16, "(sum << 4) ^ TABLE16"),
+    ("sums", "CRC-8 moved by three bits", MOVED_8, "(sum << 3) ^ TABLE8"),
+    ("sums", "CRC-16 moved by three bits", MOVED_16, "(sum >> 3) ^ TABLE16"),
+]
+
+# the check sums bit by bit: tried with the check
+BITS = [
+    ("bits", "CRC-8 polynomial", "^ 0x07", "^ 0x31"),
+    ("bits", "CRC-16 polynomial", "^ 0xa001", "^ 0x8408"),
+    ("bits", "CRC-8 start", "fold(0xff,", "fold(0x00,"),
+    ("bits", "CRC-16 start", "fold(0xffff,", "fold(0,"),
+    ("bits", "CRC-8 low bit first", "sum & 0x80 != 0", "sum & 1 != 0"),
+    ("bits", "CRC-16 high bit first", "sum & 1 != 0", "sum & 0x8000 != 0"),
+    ("bits", "CRC-8 entries after three steps", "(0..4).fold(sum, |sum, _| step8", "(0..3).fold(sum, |sum, _| step8"),
+    ("bits", "CRC-16 entries after five steps", "(0..4).fold(sum, |sum, _| step16", "(0..5).fold(sum, |sum, _| step16"),
+    ("bits", "CRC-8 seven steps", "(0..8).fold(sum ^ byte,", "(0..7).fold(sum ^ byte,"),
+    ("bits", "CRC-16 nine steps", "(0..8).fold(sum ^ u16::from(byte),", "(0..9).fold(sum ^ u16::from(byte),"),
+]
+
 # changes to the ledger: tried with the check
 LEDGER = [
     ("ledger", "earlier copy not taken", "        self.earlier = self.copy.clone();\n", ""),
@@ -305,6 +389,8 @@ CHECKED_TOO = [
     "refusal back to the default range", "refusal drops waiting bytes", "every address refused",
     "reply to set address not kept",
     "120 taken on I2C", "8 refused on I2C", "247 refused on RS485", "encoder makes reserved addresses",
+    "CRC-8 start", "CRC-16 start", "CRC-8 entry 6", "CRC-8 entry 15", "CRC-16 entry 9", "CRC-16 entry 15",
+    "CRC-8 low half first", "CRC-16 high half first", "CRC-8 first half only", "CRC-16 moved part dropped",
 ]
 
 
@@ -399,8 +485,10 @@ def unchanged_passes(folder, cases, expected):
 
 def try_all(folders, cases, expected):
     names = situations(cases)
-    mutants = [("answer", mutant) for mutant in MUTANTS + RESERVED]
-    mutants += [("check", mutant) for mutant in LEDGER + [m for m in RESERVED if m[1] in CHECKED_TOO]]
+    again = [m for m in RESERVED + HALF_BYTES if m[1] in CHECKED_TOO]
+    assert len(again) == len(CHECKED_TOO)
+    mutants = [("answer", mutant) for mutant in MUTANTS + RESERVED + HALF_BYTES]
+    mutants += [("check", mutant) for mutant in LEDGER + BITS + again]
     noticed = 0
     with ThreadPoolExecutor(max_workers=WORKERS) as pool:
         tried = pool.map(lambda m: try_one(*m, folders, cases, expected, names), mutants)

@@ -198,6 +198,9 @@ impl Pair {
         let number = request_same(e.bus, e.m, &request, room, got, &lent)?;
         self.tally.call(Kind::Encode, number);
         self.tally.address_edges.encoded(e, room, number);
+        if let (0, Some(bus)) = (number, bus_of(e.bus)) {
+            self.tally.half_bytes.request(bus, &lent.bytes()[..got.1]);
+        }
         Ok(())
     }
 
@@ -228,8 +231,9 @@ impl Pair {
             return Err(Difference::only("the reply was changed"));
         }
         self.tally.call(Kind::Decode, got.0);
-        if got.0 == 0 {
+        if let (0, Some(bus)) = (got.0, bus_of(d.bus)) {
             self.tally.decoded[got.1 as usize] += 1;
+            self.tally.half_bytes.decoded(bus, &d.reply, got.2 + got.3);
         }
         Ok(())
     }
@@ -361,6 +365,7 @@ impl Board {
         tally.most_flash = tally.most_flash.max(self.flash.len());
         if let (Some(p), Some(before), BoardCall::Receive { address, frame }) = (&self.profile, before, call) {
             tally.address_edges.received(p, before, *address, frame, number, reply);
+            tally.half_bytes.received(p.bus, frame, number, reply);
         }
     }
 

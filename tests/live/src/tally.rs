@@ -1,6 +1,7 @@
 //! What was compared: calls of each kind by number, and what happened in them.
 
 use crate::address_edges::AddressEdges;
+use crate::half_bytes::HalfBytes;
 use rules::ledger::Event;
 use rules::model::*;
 
@@ -59,6 +60,7 @@ pub struct Tally {
     starts: u64,
     silent: u64,
     pub address_edges: AddressEdges,
+    pub half_bytes: HalfBytes,
 }
 
 impl Tally {
@@ -147,6 +149,7 @@ impl Tally {
         let parts: Vec<String> = self.happened().iter().map(|(name, n)| format!("{name} {n}")).collect();
         lines.push(parts.join(", "));
         lines.extend(self.address_edges.lines());
+        lines.push(self.half_bytes.line());
         lines.push(format!("calls with buffers of their own {}, longest flash {}", self.aside, self.most_flash));
         lines
     }
@@ -162,6 +165,7 @@ impl Tally {
         missing.extend((0..6).filter(|&s| self.decoded[s] == 0).map(|s| format!("decoded status {s}")));
         missing.extend(self.happened().iter().filter(|(_, n)| *n == 0).map(|(name, _)| name.to_string()));
         missing.extend(self.address_edges.missing());
+        missing.extend(self.half_bytes.missing());
         missing
     }
 }

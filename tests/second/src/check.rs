@@ -13,6 +13,7 @@
 //! to set address at the new one.
 
 use crate::board;
+use crate::half_bytes;
 use crate::ledger::{Event, Ledger, Seen};
 use crate::master::{self, Request};
 use crate::model::*;
@@ -571,7 +572,7 @@ fn one_new_address(bus: Bus, new: u8) -> Result<(), String> {
 
 /// All checks; a report line for each.
 pub fn all(lists: u64, depth: u32) -> Result<Vec<String>, String> {
-    let mut report = Vec::new();
+    let mut report = vec![half_bytes::compare()?];
     report.push(format!("any input: {} rounds", total::any_input(5, 10 * lists)?));
     report.push(format!("ledger by hand: {} calls", ledger_by_hand()?));
     report.push(format!("master against board: {} requests", round_trip()?));

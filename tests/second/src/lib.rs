@@ -1,15 +1,18 @@
 //! The rules of the Childbus bootloader protocol, written from the papers.
 //!
 //! `model` profile, state, argument table, reserved addresses and the refusals
-//! of board calls; `sums` both CRCs; `board` received frame and I2C read;
-//! `master` encoder, decoder, two reads, version rule; `ledger` the ledger of
-//! demand 3; `script` reads case files and answers them; `check` compares board
-//! and ledger over lists of calls; `total` gives every function any input;
-//! `rng` is the generator of random numbers.
+//! of board calls; `sums` both CRCs by half bytes, `bits` the same bit by bit;
+//! `board` received frame and I2C read; `master` encoder, decoder, two reads,
+//! version rule; `ledger` the ledger of demand 3; `script` reads case files and
+//! answers them; `check` compares board and ledger over lists of calls;
+//! `half_bytes` compares `sums` with `bits`; `total` gives every function any
+//! input; `rng` is the generator of random numbers.
 
+pub mod bits;
 pub mod board;
 pub mod ledger;
 pub mod check;
+pub mod half_bytes;
 pub mod master;
 pub mod model;
 pub mod rng;

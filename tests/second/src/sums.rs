@@ -1,33 +1,54 @@
-//! Both check sums, bit by bit.
+//! Both check sums by half bytes (request W2). Document 01 defines them bit by bit: see `bits`.
+//!
+//! Entry i of a table is the register after four bit steps from i in the half byte that leaves first: the high one of
+//! CRC-8, the lowest one of CRC-16. The byte's halves enter in the same order.
 
-/// CRC-8: start 0xFF, most significant bit first, polynomial x^8+x^2+x+1.
+pub const TABLE8: [u8; 16] =
+    [0x00, 0x07, 0x0e, 0x09, 0x1c, 0x1b, 0x12, 0x15, 0x38, 0x3f, 0x36, 0x31, 0x24, 0x23, 0x2a, 0x2d];
+
+pub const TABLE16: [u16; 16] = [
+    0x0000, 0xcc01, 0xd801, 0x1400, 0xf001, 0x3c00, 0x2800, 0xe401, 0xa001, 0x6c00, 0x7800, 0xb401, 0x5000, 0x9c01,
+    0x8801, 0x4400,
+];
+
+/// The CRC-8 register after one more half byte.
+fn half8(sum: u8, half: u8) -> u8 {
+    let entry = (sum >> 4) ^ half;
+    (sum << 4) ^ TABLE8[usize::from(entry)]
+}
+
+/// The CRC-16 register after one more half byte.
+fn half16(sum: u16, half: u8) -> u16 {
+    let entry = (sum & 0x0f) ^ u16::from(half);
+    (sum >> 4) ^ TABLE16[usize::from(entry)]
+}
+
+/// The CRC-8 register after one more byte, its high half first.
+pub fn byte8(sum: u8, byte: u8) -> u8 {
+    let sum = half8(sum, byte >> 4);
+    half8(sum, byte & 0x0f)
+}
+
+/// The CRC-16 register after one more byte, its low half first.
+pub fn byte16(sum: u16, byte: u8) -> u16 {
+    let sum = half16(sum, byte & 0x0f);
+    half16(sum, byte >> 4)
+}
+
+/// CRC-8: start 0xFF.
 pub fn crc8(bytes: &[u8]) -> u8 {
     let mut sum: u8 = 0xff;
     for &byte in bytes {
-        sum ^= byte;
-        for _ in 0..8 {
-            let top = sum & 0x80 != 0;
-            sum <<= 1;
-            if top {
-                sum ^= 0x07;
-            }
-        }
+        sum = byte8(sum, byte);
     }
     sum
 }
 
-/// CRC-16 of Modbus: reflected polynomial 0xA001, start 0xFFFF.
+/// CRC-16 of Modbus: start 0xFFFF.
 pub fn crc16(bytes: &[u8]) -> u16 {
     let mut sum: u16 = 0xffff;
     for &byte in bytes {
-        sum ^= u16::from(byte);
-        for _ in 0..8 {
-            let low = sum & 1 != 0;
-            sum >>= 1;
-            if low {
-                sum ^= 0xa001;
-            }
-        }
+        sum = byte16(sum, byte);
     }
     sum
 }

@@ -4,6 +4,7 @@ mod addresses;
 mod commands;
 mod examples;
 mod frames;
+mod half_bytes;
 mod master;
 mod refusals;
 mod reserved;
@@ -18,6 +19,7 @@ pub fn all() -> Sheet {
     examples::examples(&mut sheet);
     refusals::refusals(&mut sheet);
     frames::frames(&mut sheet);
+    half_bytes::half_bytes(&mut sheet);
     addresses::addresses(&mut sheet);
     reserved::reserved_addresses(&mut sheet);
     addresses::general_calls(&mut sheet);
