@@ -1,6 +1,6 @@
 /*
  * A board and a master of the Childbus bootloader protocol in plain C: what the library is measured against.
- * Same rules and same numbers (0 to 14) as childbus.h; profile and state are structs. Check sums bit by bit.
+ * Same rules and same numbers (0 to 14) as childbus.h; profile and state are structs. Check sums by half bytes.
  */
 #ifndef PLAIN_H
 #define PLAIN_H

@@ -3,7 +3,7 @@
 use mathlib.Core.Path.{_≡_, refl, sym, ap, _∙_}
 use mathlib.Core.Bool.{true}
 use mathlib.Core.List.{List, [], _∷_}
-use Prim.Native.Nat.{ℕ, zero, suc, _+_, _*_, _/_, _%_, _^_, _<_}
+use Prim.Native.Nat.{ℕ, zero, suc, _+_, _*_, _%_, _^_, _<_}
 use native.Mathlib.Nat.{add-zero, zero-add}
 use native.Mathlib.Omega.{arith}
 use lib.Bits.{bitXor, xor-comm, xor-lt}
@@ -12,8 +12,9 @@ use lib.ListN.{length, getD}
 use borrow.Author.Tests.{eqb-true}
 use Rattle.rules.specs.CheckSums.{Algorithm, mostFirst, leastFirst, times, bit, byte, crc8, crc16}
 use Rattle.laws.proofs.TestLaws.{&&-true}
-use Rattle.laws.proofs.CheckSumLaws.{Bounded, mostFirst-bounded, leastFirst-bounded, mostFirst-steps, leastFirst-steps, times-lt, byte-halves}
-use Rattle.crc_steps.specs.HalfBytes.{Halves, highHalf, lowHalf, entryRight, entriesRight, tableRight, halfStep, tableStep, ByTable}
+use Rattle.laws.proofs.CheckSumLaws.{Bounded, mostFirst-bounded, leastFirst-bounded, mostFirst-steps, leastFirst-steps}
+use Rattle.laws.proofs.CheckSumLaws.{times-lt, byte-halves}
+use Rattle.crc_steps.specs.HalfBytes.{Halves, highHalf, lowHalf, entryRight, entriesRight, tableRight, halfStep, tableStep}
 
 -- a register of so many bits: in four bit steps one of sixteen half bytes leaves it, and the other bits only move
 pub record Halved (width : ℕ) (k : Algorithm) (h : Halves) : Type 0 where

@@ -16,15 +16,11 @@ use lib.Pow.{pow-pos, pow-mono, shl-lt, shl-exact, shl-shr, shr-shr, field, mod-
 use lib.Seq.{drop-cons, take-at, drop-at}
 use Rattle.rules.specs.declared.kinds.Bus.{Bus}
 use Rattle.rules.specs.declared.kinds.Bus.the-variants.{I2c, Rs485}
-use Rattle.rules.specs.CheckSums.{Algorithm, mostFirst, leastFirst, times, bit, byte, run, crc, crc8, crc16, sum, sumLength, sealed}
+use Rattle.rules.specs.CheckSums.{Algorithm, mostFirst, leastFirst, times, bit, byte, run, crc, sum, sumLength, sealed}
 use Rattle.rules.specs.CheckSums.{unsealed, sumRight}
 use Rattle.laws.proofs.BytesLaws.{same-self}
 
 -- ---- a register over bytes
-
--- one step more
-pub times-next : (n : ℕ) (f : ℕ → ℕ) (x : ℕ) → times (n + 1) f x ≡ f (times n f x)
-times-next n f x = rw add-one
 
 -- eight steps are four and four
 pub byte-halves : (k : Algorithm) (r b : ℕ) → byte k r b ≡ times 4 (bit k) (times 4 (bit k) (bitXor r b))
@@ -117,12 +113,6 @@ mostFirst-linear poly start = record {
 pub leastFirst-linear : (poly start : ℕ) → Linear (leastFirst poly start)
 leastFirst-linear poly start = record { out-xor = xor-test; rest-xor = xor-half }
 
-pub crc8-linear : Linear crc8
-crc8-linear = mostFirst-linear 0x07 0xFF
-
-pub crc16-linear : Linear crc16
-crc16-linear = leastFirst-linear 0xA001 0xFFFF
-
 -- the polynomial is added to a sum once for each part that adds it
 cond-xor : (p q : Bool) (x y poly : ℕ)
     → cond (xor p q) (bitXor (bitXor x y) poly) (bitXor x y) ≡ bitXor (cond p (bitXor x poly) x) (cond q (bitXor y poly) y)
@@ -177,9 +167,6 @@ module _ (poly start : ℕ) where
       let even : r / 2 ^ i % 2 ≡ 0 = sym (field r 1 i) ∙ rw low (zero-div (2 ^ i)) in
       rw (times-half i r, even)
 
-  pub leastFirst-none-out : (n r : ℕ) → r % 2 ^ n ≡ 0 → times n (bit (leastFirst poly start)) r ≡ r / 2 ^ n
-  leastFirst-none-out n r e = times-none-out (leastFirst poly start) n r (low-none-out n r e) ∙ times-half n r
-
   pub leastFirst-steps : (n r : ℕ)
       → times n (bit (leastFirst poly start)) r ≡ bitXor (times n (bit (leastFirst poly start)) (r % 2 ^ n)) (r / 2 ^ n)
   leastFirst-steps n r =
@@ -201,9 +188,6 @@ module _ (poly start m n : ℕ) (whole : m + n ≡ 8) where
       let below : r * 2 ^ i < 2 ^ 7 = lt-of-lt-of-le (shl-lt m i h) (pow-mono {j = 7} (omega arith)) in
       rw (times-double i r (omega arith) h, div-eq-of-lt below)
 
-  pub mostFirst-none-out : (r : ℕ) → r < 2 ^ m → times n (bit (mostFirst poly start)) r ≡ r * 2 ^ n
-  mostFirst-none-out r h = times-none-out (mostFirst poly start) n r (high-none-out r h) ∙ times-double n r (omega arith) h
-
   pub mostFirst-steps : (r : ℕ) → times n (bit (mostFirst poly start)) r
       ≡ bitXor (times n (bit (mostFirst poly start)) (r / 2 ^ m * 2 ^ m)) (r % 2 ^ m * 2 ^ n)
   mostFirst-steps r =
@@ -211,13 +195,6 @@ module _ (poly start m n : ℕ) (whole : m + n ≡ 8) where
       ∙ times-parts (mostFirst poly start) (mostFirst-linear poly start) n (r / 2 ^ m * 2 ^ m) (r % 2 ^ m)
       (high-none-out (r % 2 ^ m) (mod-lt r (pow-pos m)))
       ∙ rw (times-double n (r % 2 ^ m) (omega arith) (mod-lt r (pow-pos m)))
-
--- half a byte: what the steps make of the four bits that fall out, and the others moved
-pub crc8-half : (r : ℕ) → times 4 (bit crc8) r ≡ bitXor (times 4 (bit crc8) (r / 16 * 16)) (r % 16 * 16)
-crc8-half = mostFirst-steps 0x07 0xFF 4 4 refl
-
-pub crc16-half : (r : ℕ) → times 4 (bit crc16) r ≡ bitXor (times 4 (bit crc16) (r % 16)) (r / 16)
-crc16-half = leastFirst-steps 0xA001 0xFFFF 4
 
 -- ---- bounds: a register of so many bits keeps to them
 
@@ -232,12 +209,6 @@ mostFirst-bounded poly start hp hs = record { start-lt = hs; poly-lt = hp; rest-
 
 pub leastFirst-bounded : (width poly start : ℕ) → poly < 2 ^ width → start < 2 ^ width → Bounded width (leastFirst poly start)
 leastFirst-bounded width poly start hp hs = record { start-lt = hs; poly-lt = hp; rest-lt = λ r h. omega arith }
-
-pub crc8-bounded : Bounded 8 crc8
-crc8-bounded = mostFirst-bounded 0x07 0xFF (omega arith) (omega arith)
-
-pub crc16-bounded : Bounded 16 crc16
-crc16-bounded = leastFirst-bounded 16 0xA001 0xFFFF (omega arith) (omega arith)
 
 cond-lt : (p : Bool) (n x y : ℕ) → x < n → y < n → cond p x y < n
 cond-lt true n x y hx hy = hx
