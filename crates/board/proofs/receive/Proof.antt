@@ -1,5 +1,5 @@
 -- `board::receive` meets its contract: refused by the first of 2 to 5 that applies with all untouched, else handled.
-use Rattle.board.proofs.HandleLaws.{handled-answered}
+use Rattle.handling.proofs.HandleLaws.{handled-answered}
 use Rattle.refusal.proofs.Laws.{check-passed, check-refused}
 use Rattle.profile.specs.View.{profileOf}
 use Rattle.state.specs.View.{view}

@@ -1,12 +1,12 @@
--- `board::handle` meets its contract: each arm is the rules' case for that verdict.
-use Rattle.board.proofs.HandleLaws.{command-long}
+-- `handling::handle` meets its contract: each arm is the rules' case for that verdict.
+use Rattle.handling.proofs.HandleLaws.{command-long}
 use Rattle.rules.specs.Board.{handled}
 use Rattle.laws.proofs.StateLaws.{unrefused-profile}
 use mathlib.Core.Path.{refl, sym, _∙_}
 use native.Mathlib.Omega.{arith}
 use borrow.Author.Needs.{needs}
-use Rattle.board.proofs.handle.Statement.{statement}
-use Rattle.board.proofs.handle.Tie as tie
+use Rattle.handling.proofs.handle.Statement.{statement}
+use Rattle.handling.proofs.handle.Tie as tie
 
 classify-requires : tie.Need-classify-requires
 classify-requires c κs = search needs
