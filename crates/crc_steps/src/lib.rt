@@ -3,7 +3,8 @@
 ghost use mathlib.Core.Path.{_≡_};
 ghost use mathlib.Core.Bool.{true};
 ghost use Rattle.rules.specs.CheckSums.{crc8, crc16};
-ghost use Rattle.crc_steps.specs.HalfBytes.{highHalf, lowHalf, tableRight, halfStep, tableStep, EightBitsByTable};
+ghost use Rattle.crc_steps.specs.HalfBytes.{highHalf, lowHalf, tableRight, halfStep, tableStep, ByTable};
+ghost use Rattle.crc_steps.specs.HalfBytes.{EightBitsByTable};
 
 // Entry i is the register after four bits, from i in the high half.
 const CRC8_TABLE: [u8; 16] = [
@@ -48,6 +49,11 @@ const CRC16_TABLE: [u16; 16] = [
 // Eight bit steps are two table steps, whatever the polynomial. The function does nothing.
 pub fn eight_bits_by_table()
     ensures { λ _. ⌜ EightBitsByTable ⌝ }
+{}
+
+// With the other half first the claim is false of both check sums: it says which half leaves first. The function does nothing.
+pub fn other_half_first_fails()
+    ensures { λ _. ⌜ (ByTable 8 crc8 lowHalf → ⊥) × (ByTable 16 crc16 highHalf → ⊥) ⌝ }
 {}
 
 // The table of CRC-8.
