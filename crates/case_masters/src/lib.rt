@@ -116,6 +116,7 @@ fn two_reads(f: Fields) {
 fn version_fields(v: Version) -> [usize; 3] {
     match v {
         Version::Known { major, minor } => [0, major as usize, minor as usize],
+        Version::ApplicationRunning => [40, 0, 0],
         Version::Unknown => [14, 0, 0],
     }
 }

@@ -15,7 +15,8 @@ use Rattle.childbus_requests.specs.RequestBytes.{EncodedLeft, encodedLef
 -- the encoder, on a bus that there is
 pub encoded-left : (bus longest : ℕ) (request : Request) (destination : ℕ) (bytes out : List ℕ) {b : Bus} {answer : Encoded}
     {after : List ℕ} {n m : ℕ}
-    → bus ≤ 1 → b ≡ busOf bus → Encodes answer (encoded b longest request destination bytes (length out)) out after
+    → bus ≤ 1 → b ≡ busOf bus
+    → Encodes (encodedNumber answer) (encodedLength answer) (encoded b longest request destination bytes (length out)) out after
     → n ≡ encodedNumber answer
     → m ≡ encodedLength answer
     → _≡_ {A = EncodedLeft} (record { number = n; made = m; out = after }) (encodedLeft bus longest request destination bytes out)

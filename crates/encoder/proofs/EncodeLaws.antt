@@ -10,12 +10,10 @@ use Rattle.rules.specs.declared.kinds.Bus.{Bus}
 use Rattle.rules.specs.declared.kinds.Bus.the-variants.{I2c, Rs485}
 use Rattle.rules.specs.declared.requests.Request.{Request}
 use Rattle.rules.specs.declared.requests.Request.the-variants.{Plain, SetAddress, Write, Read, ResetAddress, Reset}
-use Rattle.rules.specs.declared.requests.Encoded.{Encoded}
-use Rattle.rules.specs.declared.requests.Encoded.the-variants.{Made}
 use Rattle.rules.specs.Profile.{frameInRange}
 use Rattle.rules.specs.Frames.{shortestReply}
 use Rattle.rules.specs.Commands.{reserved}
-use Rattle.rules.specs.Master.{Encoding, encodedNumber, encodedLength, Instruction, Commands, AddressReset, BoardReset, addressOver}
+use Rattle.rules.specs.Master.{Encoding, Instruction, Commands, AddressReset, BoardReset, addressOver}
 use Rattle.rules.specs.Master.{flashAddressOver, numbersWrong, unmade}
 use Rattle.laws.proofs.TestLaws.{&&-true, ||-false}
 use Rattle.laws.proofs.ArgumentLaws.{served-lt}
@@ -58,10 +56,9 @@ numbers-fit bus M Reset most e = tt
 
 -- answers
 
-pub encodes-unmade : (answer : Encoded) (e : Encoding) (out : List ℕ) → encodedLength answer ≡ 0 → e ≡ unmade (encodedNumber answer)
-    → Encodes answer e out out
-encodes-unmade answer e out none is = rw is (record { number-is = refl; length-is = none; output-is = refl })
+pub encodes-unmade : (number : ℕ) (e : Encoding) (out : List ℕ) → e ≡ unmade number → Encodes number 0 e out out
+encodes-unmade number e out is = rw is (record { number-is = refl; length-is = refl; output-is = refl })
 
 pub encodes-made : (bytes before after : List ℕ) (r : ℕ) (e : Encoding) → Makes bytes before after r
-    → e ≡ record { number = 0; bytes = bytes } → Encodes (Made r) e before after
+    → e ≡ record { number = 0; bytes = bytes } → Encodes 0 r e before after
 encodes-made bytes before after r e made is = rw is (record { number-is = refl; length-is = made .length-is; output-is = made .output-is })

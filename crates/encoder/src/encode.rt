@@ -6,7 +6,7 @@ use rules::kinds::Bus;
 use rules::requests::Encoded;
 use rules::requests::Request;
 ghost use lib.ListN.{length};
-ghost use Rattle.rules.specs.Master.{encoded};
+ghost use Rattle.rules.specs.Master.{encodedNumber, encodedLength, encoded};
 ghost use Rattle.encoder.specs.Calls.{Encodes};
 
 // Encodes a request to a destination, which a general call has none of. The bytes are a write's data.
@@ -18,7 +18,8 @@ pub fn encode(
     bytes: &[u8],
     out: &mut [u8],
 ) -> Encoded
-    ensures { λ r. ⌜ Encodes r (encoded bus longest request destination (now (bytes .entry)) (length (now (out .entry))))
+    ensures { λ r. ⌜ Encodes (encodedNumber r) (encodedLength r)
+        (encoded bus longest request destination (now (bytes .entry)) (length (now (out .entry))))
         (now (out .entry)) (now (out .exit)) ⌝ }
 {
     if !profile::frame_in_range(longest) {

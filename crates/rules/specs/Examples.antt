@@ -1,6 +1,6 @@
 -- Document 01, "Proved examples", in one table with one statement. E1 to E12, the last three on both buses and at two offsets; the edges
 -- that it names as rows 13 to 19; a shorter upload over a longer one as row 20; the edges of the sizes (numbers 2 and 4) as rows 21 to 29;
--- the edges of the reserved addresses (W1) as rows 30 to 34.
+-- the edges of the reserved addresses (W1) as rows 30 to 34; version 0.0 and its reset (W4) as rows 35 to 37.
 use mathlib.Core.Bool.{Bool, false, cond}
 use mathlib.Core.List.{List, [], _∷_, _++_, map}
 use Prim.Native.Nat.{ℕ, _+_}
@@ -15,7 +15,7 @@ use Rattle.rules.specs.State.{State, fresh}
 use Rattle.rules.specs.Numbers.{refusal}
 use Rattle.rules.specs.Frames.{headerLength, request, reply, resetFrame, resetAddressFrame}
 use Rattle.rules.specs.Board.{Called, nothing, received}
-use Rattle.rules.specs.Master.{encoded}
+use Rattle.rules.specs.Master.{Encoding, encoded, versionRule, runningReset}
 
 -- an example: its number, what the definitions give, and what document 01 states
 pub record Row : Type 0 where
@@ -122,6 +122,13 @@ exampleAnswer address hardware = sentTo exampleBoard 8 (blank exampleBoard) 0x01
 -- the number of a set address that is encoded for a bus
 abbrev pub exampleNumber : Bus → ℕ → ℕ
 exampleNumber bus address = encoded bus 256 (SetAddress address 1) 8 [] 256 .number
+
+-- the number of a version, and what its reset writes, after the number
+abbrev pub exampleVersion : ℕ → ℕ → ℕ
+exampleVersion major minor = versionRule major minor .number
+
+abbrev pub numbered : Encoding → List ℕ
+numbered e = e .number ∷ e .bytes
 
 -- the erase count that a call left
 abbrev pub countAfter : Called → ℕ
@@ -230,4 +237,15 @@ rows =
     ∷ row 33 (map (exampleNumber I2c) (0 ∷ 7 ∷ 8 ∷ 119 ∷ 120 ∷ 127 ∷ 128 ∷ 136 ∷ []))
     (7 ∷ 7 ∷ 0 ∷ 0 ∷ 7 ∷ 7 ∷ 7 ∷ 7 ∷ [])
     ∷ row 34 (map (exampleNumber Rs485) (0 ∷ 1 ∷ 247 ∷ 248 ∷ 255 ∷ 256 ∷ [])) (7 ∷ 0 ∷ 0 ∷ 7 ∷ 7 ∷ 7 ∷ [])
+    -- W4: versions 0.0, 0.1, 0.255, 1.0, 1.1, 2.0, 2.2, 3.0, 255.0
+    ∷ row 35 (map (exampleVersion 0) (0 ∷ 1 ∷ 255 ∷ []) ++ map (exampleVersion 1) (0 ∷ 1 ∷ []) ++ map (exampleVersion 2) (0 ∷ 2 ∷ [])
+    ++ exampleVersion 3 0 ∷ exampleVersion 255 0 ∷ [])
+    (40 ∷ 14 ∷ 14 ∷ 0 ∷ 0 ∷ 0 ∷ 0 ∷ 14 ∷ 14 ∷ [])
+    -- its reset on both buses, in an output that just holds it, and a byte less
+    ∷ row 36 (numbered (runningReset I2c 32 0 0 1) ++ numbered (runningReset I2c 32 0 0 0)) (0 ∷ 0x06 ∷ 6 ∷ [])
+    ∷ row 36 (numbered (runningReset Rs485 256 0 0 4) ++ numbered (runningReset Rs485 256 0 0 3))
+    (0 ∷ 0x00 ∷ 0x46 ∷ 0x80 ∷ 0x42 ∷ 6 ∷ [])
+    -- with no room: M of 31 and 257 before any version, 14 before 6, and a known version has nothing to write
+    ∷ row 37 (numbered (runningReset I2c 31 0 1 0) ++ numbered (runningReset I2c 257 2 2 0) ++ numbered (runningReset I2c 32 0 1 0)
+    ++ numbered (runningReset I2c 32 2 2 0) ++ numbered (runningReset Rs485 256 1 0 4)) (2 ∷ 2 ∷ 14 ∷ 1 ∷ 1 ∷ [])
     ∷ []

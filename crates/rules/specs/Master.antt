@@ -1,5 +1,5 @@
--- Document 01, "The master": the request encoder, the reply decoder, a reply that is read twice, and the version rule.
--- Total over any bus, M, request, reply and output length.
+-- Document 01, "The master": the request encoder, the reply decoder, a reply that is read twice, and the version rule; W4's reset for a
+-- running application. Total over any bus, M, request, reply, version and output length.
 use mathlib.Core.Bool.{Bool, true, false, cond, not, _&&_, _||_}
 use mathlib.Core.List.{List, [], _∷_, _++_}
 use Prim.Native.Nat.{ℕ, _+_, _-_}
@@ -17,7 +17,9 @@ use Rattle.rules.specs.declared.requests.Decoded.the-variants.{StatusUnk
 use Rattle.rules.specs.declared.requests.Which.{Which}
 use Rattle.rules.specs.declared.requests.Which.the-variants.{First, Second, Neither}
 use Rattle.rules.specs.declared.requests.Version.{Version}
-use Rattle.rules.specs.declared.requests.Version.the-variants.{Known, Unknown}
+use Rattle.rules.specs.declared.requests.Version.the-variants.{Known, ApplicationRunning, Unknown}
+use Rattle.rules.specs.declared.requests.RunningReset.{RunningReset}
+use Rattle.rules.specs.declared.requests.RunningReset.the-variants as resets
 use Rattle.rules.specs.Profile.{frameInRange}
 use Rattle.rules.specs.CheckSums.{sumRight}
 use Rattle.rules.specs.Frames.{headerLength, shortestRequest, shortestReply, twoBytes, request, resetAddressFrame, resetFrame}
@@ -232,18 +234,50 @@ pub record Ruled : Type 0 where
   pub major : ℕ
   pub minor : ℕ
 
+-- W4: application running; the papers give it no number
+abbrev pub applicationRunning : ℕ
+applicationRunning = 40
+
 -- the number and the values of each of its answers
 abbrev pub ruledAs : Version → Ruled
 ruledAs (Known major minor) = record { number = 0; major = major; minor = minor }
+ruledAs ApplicationRunning = record { number = applicationRunning; major = 0; minor = 0 }
 ruledAs Unknown = record { number = 14; major = 0; minor = 0 }
 
 -- a higher minor counts as the highest known
 abbrev pub capped : ℕ → ℕ → ℕ
 capped highest minor = cond (ltb highest minor) highest minor
 
--- known are minors 0 and 1 of major 1, 0 to 2 of major 2; another major is 14
+-- known are minors 0 and 1 of major 1, 0 to 2 of major 2; exactly 0.0 is a running application's; any other is 14
 unfoldable pub versionRule : ℕ → ℕ → Ruled
 versionRule major minor =
     cond (eqb major 1) (record { number = 0; major = 1; minor = capped 1 minor })
     (cond (eqb major 2) (record { number = 0; major = 2; minor = capped 2 minor })
-    (record { number = 14; major = 0; minor = 0 }))
+    (cond (eqb major 0 && eqb minor 0) (record { number = applicationRunning; major = 0; minor = 0 })
+    (record { number = 14; major = 0; minor = 0 })))
+
+-- the reset for a running application
+
+-- the number of each of its answers
+abbrev pub resetNumber : RunningReset → ℕ
+resetNumber (resets.Made k) = 0
+resetNumber resets.VersionKnown = 1
+resetNumber resets.FrameOutOfRange = 2
+resetNumber resets.VersionUnknown = 14
+resetNumber resets.OutputTooShort = 6
+
+-- how many bytes of the lent output an answer says were made
+abbrev pub resetLength : RunningReset → ℕ
+resetLength (resets.Made k) = k
+resetLength resets.VersionKnown = 0
+resetLength resets.FrameOutOfRange = 0
+resetLength resets.VersionUnknown = 0
+resetLength resets.OutputTooShort = 0
+
+-- W4: 2 (M only), 14, 1 for a known version; for a running application the encoder's general-call reset, with its 6 and 0
+unfoldable pub runningReset : Bus → ℕ → ℕ → ℕ → ℕ → Encoding
+runningReset bus M major minor outputLength =
+    cond (not (frameInRange M)) (unmade 2)
+    (cond (eqb (versionRule major minor .number) 14) (unmade 14)
+    (cond (eqb (versionRule major minor .number) 0) (unmade 1)
+    (encoded bus M Reset 0 [] outputLength)))

@@ -63,6 +63,22 @@ pub enum Which {
 pub enum Version {
     // 0: the version that it counts as.
     Known { major: u8, minor: u8 },
+    // 40: 0.0, an application's.
+    ApplicationRunning,
     // 14
     Unknown,
+}
+
+// The answers of the reset for a running application.
+pub enum RunningReset {
+    // 0: a reset of so many bytes stands in the lent output.
+    Made(usize),
+    // 1: the bootloader runs; there is nothing to write.
+    VersionKnown,
+    // 2, of M alone.
+    FrameOutOfRange,
+    // 14
+    VersionUnknown,
+    // 6
+    OutputTooShort,
 }

@@ -10,7 +10,7 @@ fn cap(highest: u8, minor: u8) -> u8
     if highest < minor { highest } else { minor }
 }
 
-// The version that a board's answer counts as.
+// The version that a board's answer counts as; 0.0 is an application's.
 pub fn version(major: u8, minor: u8) -> Version
     ensures { λ r. ⌜ ruledAs r ≡ versionRule major minor ⌝ }
 {
@@ -23,6 +23,13 @@ pub fn version(major: u8, minor: u8) -> Version
             major: 2,
             minor: cap(2, minor),
         },
+        0 => {
+            if minor == 0 {
+                Version::ApplicationRunning
+            } else {
+                Version::Unknown
+            }
+        }
         _ => Version::Unknown,
     }
 }

@@ -21,7 +21,17 @@ returns-2 c = rw (c .before .match .keys2, c .cap2 .ensures)
 
 returns-3 : tie.Need-returns-3
 unfolding versionRule
-returns-3 c = rw (ne-eqb _ _ (c .match .rest .0 .1), ne-eqb _ _ (c .match .rest .1))
+returns-3 c = rw (c .before .match .keys3, c .if1 .taken)
+
+returns-4 : tie.Need-returns-4
+unfolding versionRule
+returns-4 c = rw (c .before .match .keys3, ne-eqb _ _ (c .if1 .left))
+
+returns-5 : tie.Need-returns-5
+unfolding versionRule
+returns-5 c =
+    let others = c .match .rest in
+    rw (ne-eqb _ _ (others .0 .0 .1), ne-eqb _ _ (others .0 .1), ne-eqb _ _ (others .1))
 
 pub version-spec : {M : Type 1} → statement M
-version-spec = tie.close (tie.spec cap-requires cap-requires-2 returns returns-2 returns-3)
+version-spec = tie.close (tie.spec cap-requires cap-requires-2 returns returns-2 returns-3 returns-4 returns-5)

@@ -1,5 +1,5 @@
 -- `encoder::encode::encode` meets its contract: each return follows the definition past the tests that were passed.
-use mathlib.Core.Path.{refl, sym, _∙_}
+use mathlib.Core.Path.{sym, _∙_}
 use borrow.Author.Needs.{needs}
 use borrow.Author.Tests.{lt-ltb, le-ltb, not-false}
 use Rattle.rules.specs.Master.{instructionOf, encoded}
@@ -16,7 +16,7 @@ returns : tie.Need-returns
 unfolding encoded
 returns c =
     let start = c .before .before .before .before in
-    encodes-unmade _ _ (start .args .out .now) refl (rw (← c .before .frame-in-range .ensures, c .if1 .taken))
+    encodes-unmade _ _ (start .args .out .now) (rw (← c .before .frame-in-range .ensures, c .if1 .taken))
 
 argument-wrong-requires : tie.Need-argument-wrong-requires
 argument-wrong-requires c κs =
@@ -28,7 +28,7 @@ unfolding encoded
 returns-2 c =
     let ranged = c .before .before in
     let start = ranged .before .before .before .before in
-    encodes-unmade _ _ (start .args .out .now) refl
+    encodes-unmade _ _ (start .args .out .now)
     (rw (← ranged .before .frame-in-range .ensures, ranged .if1 .left, ← c .before .argument-wrong .ensures, c .if2 .taken))
 
 request-length-requires : tie.Need-request-length-requires
@@ -40,7 +40,7 @@ returns-3 c =
     let right = c .before .before in
     let ranged = right .before .before in
     let start = ranged .before .before .before .before in
-    encodes-unmade _ _ (start .args .out .now) refl
+    encodes-unmade _ _ (start .args .out .now)
     (rw (
       ← ranged .before .frame-in-range .ensures,
       ranged .if1 .left,

@@ -1,0 +1,2 @@
+-- The reset in a lent output.
+pub mod Resets
