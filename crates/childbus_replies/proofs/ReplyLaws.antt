@@ -1,24 +1,27 @@
 -- From what the decoder and the version rule promise to what their calls of the boundary do.
 use mathlib.Core.Path.{_≡_, refl, sym, ap, _∙_}
 use mathlib.Core.Bool.{cond}
-use mathlib.Core.List.{List}
-use Prim.Native.Nat.{ℕ, _≤_, _<_}
-use native.Mathlib.Omega.{arith}
-use lib.Dec.{eqb, ltb}
-use borrow.Author.Tests.{ne-eqb, lt-ltb, le-ltb, ltb-true}
+use mathlib.Core.List.{List, [], _∷_}
+use Prim.Native.Nat.{ℕ, _≤_}
+use lib.Dec.{eqb}
+use borrow.Author.Tests.{le-ltb}
 use denote.Enum.Declared.{tagOf}
 use types.Run.{OneOf, miss}
 use Rattle.rules.specs.declared.kinds.Bus.{Bus}
 use Rattle.rules.specs.declared.requests.Decoded.{Decoded}
 use Rattle.rules.specs.declared.requests.Decoded.the-variants.{Reply, NotServed, TooShort, SumWrong, OtherAddress, LengthWrong}
 use Rattle.rules.specs.declared.requests.Decoded.the-variants.{StatusUnknown, ResultsMissing}
+use Rattle.rules.specs.declared.requests.Version.{Version}
+use Rattle.rules.specs.declared.requests.Version.the-variants.{Known, ApplicationRunning, Unknown}
 use Rattle.rules.specs.Master.{Decoding, unread, decodedAs, decoded, decodedRead, resultsIn}
-use Rattle.rules.specs.Master.{resultBytes, whichRead, capped, Ruled, versionRule}
+use Rattle.rules.specs.Master.{resultBytes, whichRead, Ruled, ruledAs, versionRule}
 use Rattle.laws.proofs.TestLaws.{by-test}
 use Rattle.rules.proofs.requests.Decoded.{the-type}
+use Rattle.rules.proofs.requests.Version as version
 use Rattle.decoder.specs.Calls.{Decodes}
 use Rattle.decoder.proofs.ReadsLaws.{refusals}
 use Rattle.fields.specs.Fields.{clipped}
+use Rattle.fields.proofs.Clipping.{versionRule-clipped}
 use Rattle.profile_bytes.specs.ProfileBytes.{busOf}
 use Rattle.childbus_replies.specs.ReplyBytes.{decodedLeft, chosenRead}
 
@@ -61,29 +64,18 @@ chosen-results code asked first second =
 
 -- the version rule at clipped numbers
 
-eqb-clipped : (x k : ℕ) → k < 255 → eqb (clipped x) k ≡ eqb x k
-eqb-clipped x k h =
-    by-test (ltb 255 x)
-    (λ e. let far : 255 < x = ltb-true 255 x e in rw (e, ne-eqb 255 k (λ q. omega arith), ne-eqb x k (λ q. omega arith)))
-    (λ e. rw e)
-
-capped-clipped : (highest x : ℕ) → highest < 255 → capped highest (clipped x) ≡ capped highest x
-capped-clipped highest x h =
-    by-test (ltb 255 x)
-    (λ e. let far : 255 < x = ltb-true 255 x e in rw (e, lt-ltb highest 255 h, lt-ltb highest x (omega arith)))
-    (λ e. rw e)
-
-versionRule-clipped : (major minor : ℕ) → versionRule (clipped major) (clipped minor) ≡ versionRule major minor
-unfolding versionRule
-versionRule-clipped major minor =
-    rw (
-      eqb-clipped major 1 (omega arith),
-      eqb-clipped major 2 (omega arith),
-      capped-clipped 1 minor (omega arith),
-      capped-clipped 2 minor (omega arith),
-    )
-
 pub version-left : (major minor : ℕ) {a b : ℕ} {r : Ruled} → a ≡ clipped major → b ≡ clipped minor → r ≡ versionRule a b
     → r ≡ versionRule major minor
 version-left major minor {b = b} a-is b-is e =
     e ∙ ap (λ (x : ℕ). versionRule x b) a-is ∙ ap (versionRule (clipped major)) b-is ∙ versionRule-clipped major minor
+
+-- the places of the answers that name no version
+abbrev pub unnamed : List ℕ
+unnamed = 1 ∷ 2 ∷ []
+
+-- they have no values
+pub version-unnamed : (v : Version) → OneOf unnamed (tagOf version.the-type v) → {n : ℕ} → n ≡ ruledAs v .number
+    → record { number = n; major = 0; minor = 0 } ≡ ruledAs v
+version-unnamed (Known major minor) h e = absurd (miss unnamed 0 tt h)
+version-unnamed ApplicationRunning h e = rw e
+version-unnamed Unknown h e = rw e

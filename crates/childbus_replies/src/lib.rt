@@ -3,6 +3,7 @@
 // specs/ fixes.
 use fields::clip;
 use numbers::decoded_number;
+use numbers::version_number;
 use rules::kinds::Bus;
 use rules::requests::Decoded;
 use rules::requests::Version;
@@ -119,7 +120,7 @@ pub extern "C" fn childbus_version(
     else {
         *known_major = 0;
         *known_minor = 0;
-        return 14;
+        return version_number(answer);
     };
     *known_major = counted as u32;
     *known_minor = within as u32;

@@ -1,25 +1,40 @@
--- From what the encoder promises to what its calls of the boundary do.
-use mathlib.Core.Path.{_≡_, _∙_}
+-- From what the calls that write a request promise to what their calls of the boundary do, on a bus that there is.
+use mathlib.Core.Path.{_≡_, sym, _∙_}
 use mathlib.Core.List.{List}
 use Prim.Native.Nat.{ℕ, _≤_}
 use lib.ListN.{length}
 use borrow.Author.Tests.{le-ltb}
 use Rattle.rules.specs.declared.kinds.Bus.{Bus}
 use Rattle.rules.specs.declared.requests.Request.{Request}
-use Rattle.rules.specs.declared.requests.Encoded.{Encoded}
-use Rattle.rules.specs.Master.{encodedNumber, encodedLength, encoded}
+use Rattle.rules.specs.Master.{encoded, runningReset}
 use Rattle.encoder.specs.Calls.{Encodes}
+use Rattle.fields.specs.Fields.{clipped}
+use Rattle.fields.proofs.Clipping.{versionRule-clipped}
 use Rattle.profile_bytes.specs.ProfileBytes.{busOf}
-use Rattle.childbus_requests.specs.RequestBytes.{EncodedLeft, encodedLeft}
+use Rattle.childbus_requests.specs.RequestBytes.{EncodedLeft, encodedLeft, resetLeft}
 
--- the encoder, on a bus that there is
-pub encoded-left : (bus longest : ℕ) (request : Request) (destination : ℕ) (bytes out : List ℕ) {b : Bus} {answer : Encoded}
-    {after : List ℕ} {n m : ℕ}
-    → bus ≤ 1 → b ≡ busOf bus
-    → Encodes (encodedNumber answer) (encodedLength answer) (encoded b longest request destination bytes (length out)) out after
-    → n ≡ encodedNumber answer
-    → m ≡ encodedLength answer
-    → _≡_ {A = EncodedLeft} (record { number = n; made = m; out = after }) (encodedLeft bus longest request destination bytes out)
-unfolding encodedLeft
-encoded-left bus longest request destination bytes out least b-is e n-is m-is =
-    rw (le-ltb 1 bus least, n-is ∙ e .number-is, m-is ∙ e .length-is, e .output-is, b-is)
+module _ (bus longest : ℕ) (out : List ℕ) {b : Bus} {after : List ℕ} {number made n m : ℕ} (least : bus ≤ 1) (b-is : b ≡ busOf bus)
+    (n-is : n ≡ number) (m-is : m ≡ made) where
+  pub encoded-left : (request : Request) (destination : ℕ) (bytes : List ℕ)
+      → Encodes number made (encoded b longest request destination bytes (length out)) out after
+      → _≡_ {A = EncodedLeft} (record { number = n; made = m; out = after }) (encodedLeft bus longest request destination bytes out)
+  unfolding encodedLeft
+  encoded-left request destination bytes e =
+      rw (le-ltb 1 bus least, n-is ∙ e .number-is, m-is ∙ e .length-is, e .output-is, b-is)
+
+  -- major and minor are clipped to a byte
+  pub reset-left : (major minor : ℕ) {x y : ℕ} → x ≡ clipped major → y ≡ clipped minor
+      → Encodes number made (runningReset b longest x y (length out)) out after
+      → _≡_ {A = EncodedLeft} (record { number = n; made = m; out = after }) (resetLeft bus longest major minor out)
+  unfolding runningReset resetLeft
+  reset-left major minor x-is y-is e =
+      rw (
+        le-ltb 1 bus least,
+        n-is ∙ e .number-is,
+        m-is ∙ e .length-is,
+        e .output-is,
+        b-is,
+        x-is,
+        y-is,
+        versionRule-clipped major minor,
+      )

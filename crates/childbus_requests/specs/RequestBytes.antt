@@ -8,7 +8,7 @@ use lib.ListN.{length}
 use Rattle.rules.specs.declared.requests.Request.{Request}
 use Rattle.rules.specs.declared.requests.Request.the-variants.{Plain, SetAddress, Write, Read, ResetAddress, Reset}
 use Rattle.rules.specs.Numbers.{laid}
-use Rattle.rules.specs.Master.{Encoding, unmade, encoded}
+use Rattle.rules.specs.Master.{Encoding, unmade, encoded, runningReset}
 use Rattle.profile_bytes.specs.ProfileBytes.{busOf}
 
 -- childbus_encode and childbus_general
@@ -36,3 +36,9 @@ encodedBy e out = record { number = e .number; made = length (e .bytes); out = l
 unfoldable pub encodedLeft : ℕ → ℕ → Request → ℕ → List ℕ → List ℕ → EncodedLeft
 encodedLeft bus longest request destination bytes out =
     encodedBy (cond (ltb 1 bus) (unmade 2) (encoded (busOf bus) longest request destination bytes (length out))) out
+
+-- childbus_reset_running
+
+unfoldable pub resetLeft : ℕ → ℕ → ℕ → ℕ → List ℕ → EncodedLeft
+resetLeft bus longest major minor out =
+    encodedBy (cond (ltb 1 bus) (unmade 2) (runningReset (busOf bus) longest major minor (length out))) out

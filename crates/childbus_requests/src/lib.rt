@@ -5,12 +5,15 @@ mod requests;
 
 use crate::requests::general_of;
 use crate::requests::request_of;
+use fields::clip;
 use numbers::encoded_length;
 use numbers::encoded_number;
+use numbers::reset_length;
+use numbers::reset_number;
 use rules::requests::Request;
 ghost use mathlib.Core.Path.{_≡_};
 ghost use mathlib.Core.List.{[]};
-ghost use Rattle.childbus_requests.specs.RequestBytes.{EncodedLeft, encodedLeft, requestOf, generalOf};
+ghost use Rattle.childbus_requests.specs.RequestBytes.{EncodedLeft, encodedLeft, requestOf, generalOf, resetLeft};
 
 // A request on a bus, where there is such a bus.
 fn encode_request(
@@ -85,4 +88,33 @@ pub extern "C" fn childbus_general(
 {
     let none = [0u8; 0];
     encode_request(bus, longest, general_of(reset), 0, &none, out, made)
+}
+
+// W4: the reset for a board that answered this version, where its application runs.
+#[no_mangle]
+pub extern "C" fn childbus_reset_running(
+    bus: u32,
+    longest: u32,
+    major: u32,
+    minor: u32,
+    out: &mut [u8],
+    made: &mut usize,
+) -> u32
+    ensures { λ r.
+        ⌜ _≡_ {A = EncodedLeft} (record { number = r; made = now (made .exit); out = now (out .exit) })
+        (resetLeft bus longest major minor (now (out .entry))) ⌝ }
+{
+    if 1 < bus {
+        *made = 0;
+        return 2;
+    }
+    let answer = reset_running::reset_running(
+        profile_bytes::bus_of(bus as usize),
+        longest as usize,
+        clip(major),
+        clip(minor),
+        out,
+    );
+    *made = reset_length(answer);
+    reset_number(answer)
 }

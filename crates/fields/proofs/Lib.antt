@@ -1,2 +1,3 @@
 -- Laws of byte layouts, for the crates above.
 pub mod Laws
+pub mod Clipping

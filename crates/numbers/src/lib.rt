@@ -2,9 +2,11 @@
 use rules::kinds::Outcome;
 use rules::requests::Decoded;
 use rules::requests::Encoded;
+use rules::requests::RunningReset;
+use rules::requests::Version;
 ghost use mathlib.Core.Path.{_≡_};
 ghost use Rattle.rules.specs.Numbers.{number, made};
-ghost use Rattle.rules.specs.Master.{encodedNumber, encodedLength, decodedAs};
+ghost use Rattle.rules.specs.Master.{encodedNumber, encodedLength, decodedAs, ruledAs, resetNumber, resetLength};
 
 // A board call.
 pub fn board_number(outcome: Outcome) -> u32
@@ -75,5 +77,42 @@ pub fn decoded_number(answer: Decoded) -> u32
         Decoded::LengthWrong => 11,
         Decoded::StatusUnknown => 12,
         Decoded::ResultsMissing => 13,
+    }
+}
+
+// A version.
+pub fn version_number(answer: Version) -> u32
+    ensures { λ r. ⌜ r ≡ ruledAs answer .number ⌝ }
+{
+    match answer {
+        Version::Known { major: _, minor: _ } => 0,
+        Version::ApplicationRunning => 40,
+        Version::Unknown => 14,
+    }
+}
+
+// A reset for a running application.
+pub fn reset_number(answer: RunningReset) -> u32
+    ensures { λ r. ⌜ r ≡ resetNumber answer ⌝ }
+{
+    match answer {
+        RunningReset::Made(_) => 0,
+        RunningReset::VersionKnown => 1,
+        RunningReset::FrameOutOfRange => 2,
+        RunningReset::VersionUnknown => 14,
+        RunningReset::OutputTooShort => 6,
+    }
+}
+
+// Its length; 0 where there is none.
+pub fn reset_length(answer: RunningReset) -> usize
+    ensures { λ r. ⌜ r ≡ resetLength answer ⌝ }
+{
+    match answer {
+        RunningReset::Made(n) => n,
+        RunningReset::VersionKnown => 0,
+        RunningReset::FrameOutOfRange => 0,
+        RunningReset::VersionUnknown => 0,
+        RunningReset::OutputTooShort => 0,
     }
 }

@@ -2,7 +2,7 @@
 use mathlib.Core.Path.{sym, ap, _∙_}
 use borrow.Author.Needs.{needs}
 use Rattle.rules.specs.Master.{ruledAs}
-use Rattle.childbus_replies.proofs.ReplyLaws.{version-left}
+use Rattle.childbus_replies.proofs.ReplyLaws.{version-left, version-unnamed}
 use Rattle.childbus_replies.proofs.childbus_version.Statement.{statement}
 use Rattle.childbus_replies.proofs.childbus_version.Tie as tie
 
@@ -18,8 +18,8 @@ version-requires c κs = search needs
 enum-known-answer : tie.Need-enum-known-answer
 enum-known-answer c = search needs
 
-enum-told : tie.Need-enum-told
-enum-told c = search needs
+version-number-requires : tie.Need-version-number-requires
+version-number-requires c κs = search needs
 
 returns : tie.Need-returns
 returns c =
@@ -27,7 +27,7 @@ returns c =
     let minor = ruled .before in
     let major = minor .before in
     let args = major .before .args in
-    sym (ap ruledAs (c .enum-told .given .1))
+    version-unnamed (ruled .version .result) (c .before .match .keys2) (c .version-number .ensures)
     ∙ version-left (args .major) (args .minor) (major .clip .ensures) (minor .clip2 .ensures) (ruled .version .ensures)
 
 cast-known-major : tie.Need-cast-known-major
@@ -53,7 +53,7 @@ childbus-version-spec =
     clip-requires-2
     version-requires
     enum-known-answer
-    enum-told
+    version-number-requires
     returns
     cast-known-major
     cast-known-minor

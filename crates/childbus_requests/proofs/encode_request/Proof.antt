@@ -32,12 +32,15 @@ returns-2 c =
     let bus = encoded .before .before in
     let tested = bus .before in
     let args = tested .before .before .before .args in
-    encoded-left (args .bus) (args .longest) (args .request) (args .destination) (args .«data» .now) (args .out .now)
+    encoded-left (args .bus) (args .longest) (args .out .now)
     (tested .if1 .left)
     (bus .bus-of .ensures)
-    (encoded .encode .ensures)
     (c .encoded-number .ensures)
     (made .encoded-length .ensures)
+    (args .request)
+    (args .destination)
+    (args .«data» .now)
+    (encoded .encode .ensures)
 
 pub encode-request-spec : {M : Type 1} → statement M
 encode-request-spec =
