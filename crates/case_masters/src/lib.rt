@@ -1,4 +1,4 @@
-// The lines of master calls: E, D, T and V.
+// The lines of master calls: E, D, T, V and A.
 use case_setup::answers::UNTOUCHED;
 use case_setup::answers::put_end;
 use case_setup::answers::put_hex;
@@ -12,8 +12,10 @@ use case_setup::setup::byte;
 use numbers::decoded_number;
 use numbers::encoded_length;
 use numbers::encoded_number;
+use numbers::reset_length;
+use numbers::reset_number;
+use numbers::version_number;
 use rules::requests::Decoded;
-use rules::requests::Encoded;
 use rules::requests::Request;
 use rules::requests::Version;
 use rules::requests::Which;
@@ -38,11 +40,10 @@ fn request_of(code: usize, a: usize, b: usize) -> Request {
     }
 }
 
-// The line of an encoder call: E number request bufferok
-fn put_encoded(e: Encoded, made: &[u8; 512], lent: usize) {
-    let n = encoded_length(e);
-    put_letter(b'E');
-    put_number(encoded_number(e) as usize);
+// The line of a call that writes a request of n bytes: E or A, number request bufferok
+fn put_request(letter: u8, number: u32, made: &[u8; 512], n: usize, lent: usize) {
+    put_letter(letter);
+    put_number(number as usize);
     put_hex(first(made, n));
     put_number(untouched(first(made, lent), n));
     put_end();
@@ -62,7 +63,22 @@ fn encode(f: Fields, room: usize) {
         first(&data, f.firstlen),
         &mut made[..lent],
     );
-    put_encoded(e, &made, lent);
+    put_request(b'E', encoded_number(e), &made, encoded_length(e), lent);
+}
+
+// A bus M major minor
+fn reset_running(f: Fields, room: usize) {
+    let n = f.numbers;
+    let mut made = [UNTOUCHED; 512];
+    let lent = within(&made, room);
+    let r = reset_running::reset_running(
+        bus_of(n[0]),
+        n[1],
+        byte(n[2]),
+        byte(n[3]),
+        &mut made[..lent],
+    );
+    put_request(b'A', reset_number(r), &made, reset_length(r), lent);
 }
 
 // The line of a decoder call: D number status start length
@@ -116,8 +132,7 @@ fn two_reads(f: Fields) {
 fn version_fields(v: Version) -> [usize; 3] {
     match v {
         Version::Known { major, minor } => [0, major as usize, minor as usize],
-        Version::ApplicationRunning => [40, 0, 0],
-        Version::Unknown => [14, 0, 0],
+        _ => [version_number(v) as usize, 0, 0],
     }
 }
 
@@ -135,6 +150,7 @@ pub fn call_master(letter: u8, f: Fields, room: usize) {
         b'E' => encode(f, room),
         b'D' => decode(f),
         b'T' => two_reads(f),
+        b'A' => reset_running(f, room),
         _ => version(f),
     }
 }

@@ -28,7 +28,7 @@ fn count(letter: u8) -> usize
         b'B' | b'R' | b'I' => 1,
         b'T' | b'V' => 2,
         b'F' => 3,
-        b'D' => 4,
+        b'D' | b'A' => 4,
         b'S' | b'E' => 6,
         _ => 8,
     }
@@ -37,7 +37,7 @@ fn count(letter: u8) -> usize
 // The largest first number.
 fn largest(letter: u8) -> usize {
     match letter {
-        b'P' | b'E' | b'D' => 1,
+        b'P' | b'E' | b'D' | b'A' => 1,
         b'R' | b'I' | b'V' => 255,
         b'S' => 256,
         b'B' => 512,
@@ -53,6 +53,7 @@ fn in_range(letter: u8, n: [usize; 8]) -> bool {
         b'S' => n[1] < 2,
         b'D' => n[2] < 256,
         b'V' => n[1] < 256,
+        b'A' => (n[2] | n[3]) < 256,
         _ => true,
     }
 }

@@ -81,7 +81,7 @@ fn act(letter: u8, f: Fields, setup: Setup, flash: &mut [u8]) -> Setup {
     match letter {
         b'R' => setup.with_state(boards::receive(f, setup, flash)),
         b'I' => setup.with_state(boards::read(f, setup, flash)),
-        b'E' | b'D' | b'T' | b'V' => {
+        b'E' | b'D' | b'T' | b'V' | b'A' => {
             call_master(letter, f, setup.room);
             setup
         }
@@ -96,7 +96,7 @@ fn act(letter: u8, f: Fields, setup: Setup, flash: &mut [u8]) -> Setup {
 // Whether a letter begins a line.
 fn is_letter(letter: u8) -> bool {
     match letter {
-        b'P' | b'F' | b'Z' | b'S' | b'B' | b'R' | b'I' | b'E' | b'D' | b'T' | b'V' => true,
+        b'P' | b'F' | b'Z' | b'S' | b'B' | b'R' | b'I' | b'E' | b'D' | b'T' | b'V' | b'A' => true,
         _ => false,
     }
 }
