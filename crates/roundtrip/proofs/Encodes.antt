@@ -1,5 +1,5 @@
--- The encoder makes the requests of an upload, by `Longest`: writes of allowed lengths, the finalize, and reads of allowed lengths, to an
--- address that the board has.
+-- The encoder makes these requests, by `Longest`: writes of allowed lengths, commands without arguments, and reads of allowed lengths, to
+-- an address that the board has.
 use mathlib.Core.Path.{_≡_, refl}
 use mathlib.Core.Bool.{true, false, not, _&&_}
 use mathlib.Core.List.{List, [], _∷_, _++_}
@@ -12,9 +12,10 @@ use Rattle.rules.specs.declared.kinds.Bus.{Bus}
 use Rattle.rules.specs.declared.kinds.Bus.the-variants.{I2c, Rs485}
 use Rattle.rules.specs.declared.kinds.Address.{Address}
 use Rattle.rules.specs.declared.requests.Request.{Request}
-use Rattle.rules.specs.declared.requests.Request.the-variants.{Write, Read}
+use Rattle.rules.specs.declared.requests.Request.the-variants.{Plain, Write, Read}
 use Rattle.rules.specs.Profile.{frameInRange}
 use Rattle.rules.specs.Frames.{shortestRequest, twoBytes, answersTo, addressed}
+use Rattle.rules.specs.Commands.{served, lengthAllowed}
 use Rattle.rules.specs.Numbers.{Unrefused}
 use Rattle.rules.specs.Master.{addressOver, requestBytes}
 use Rattle.laws.proofs.TestLaws.{&&-true}
@@ -23,8 +24,7 @@ use Rattle.laws.proofs.FrameLaws.{length-request, addressed-address, shortestRe
 use Rattle.roundtrip.specs.Sending.{encoding}
 use Rattle.roundtrip.specs.Exchanges.{Line, Board, Ready, sending}
 use Rattle.roundtrip.specs.Longest.{dataMost, resultsMost}
-use Rattle.roundtrip.specs.UploadRoundtrip.{finalize}
-use Rattle.roundtrip.proofs.Longest.{write-makes, read-makes, finalize-makes}
+use Rattle.roundtrip.proofs.Longest.{write-makes, read-makes, plain-makes}
 
 -- an address of the board, and a byte, is one of the bus
 addressed-within : (b : Bus) (own : Address) (a : ℕ) → addressed b own a ≡ true → a ≤ 255 → addressOver b a ≡ false
@@ -79,13 +79,15 @@ module _ (l : Line) (b : Board) (ready : Ready l b) where
           unrefused .buffer-holds,
         ))
 
-  pub finalize-made : encoding (sending l b finalize) .number ≡ 0
+  -- a command without arguments
+  pub plain-made : (code : ℕ) → served code ≡ true → lengthAllowed code 0 ≡ true
+      → encoding (sending l b (record { request = Plain code; bytes = [] })) .number ≡ 0
   unfolding requestBytes
-  finalize-made =
-      finalize-makes bus M (l .to) range some within (l .buffer)
+  plain-made code row allowed =
+      plain-makes bus M (l .to) range some within code row allowed (l .buffer)
       (omega (
         arith,
-        length-request bus (l .to) 0x07 [],
+        length-request bus (l .to) code [],
         shortestRequest-le bus,
         unrefused-profile unrefused .longest-least,
         unrefused .buffer-holds,

@@ -80,10 +80,11 @@ module _ (bus : Bus) (M to : ℕ) (range : frameInRange M ≡ true) (some : eqb 
     unfolding argumentWrong
     read-refuses n many = refuses (Read at n) [] (rw (read-right, address, lt-ltb (M - shortestReply bus) n many))
 
-  pub finalize-makes : Makes bus M (Plain 0x07) to []
-  unfolding argumentWrong tabled
-  finalize-makes =
-      makes (Plain 0x07) [] (rw (command-right 0x07 0 refl refl (omega (arith, shortestRequest-within bus .1, least))))
+  -- a command without arguments
+  pub plain-makes : (code : ℕ) → served code ≡ true → lengthAllowed code 0 ≡ true → Makes bus M (Plain code) to []
+  unfolding argumentWrong
+  plain-makes code row allowed =
+      makes (Plain code) [] (rw (command-right code 0 row allowed (omega (arith, shortestRequest-within bus .1, least))))
 
 pub longest-made : LongestMade
 longest-made bus M at to range address some within = record {

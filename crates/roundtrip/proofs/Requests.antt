@@ -85,7 +85,7 @@ unfolding verdict resetAddressFrame resetFrame same sealed sum run byte bit
 verdict-resetAddress I2c M own beside e = rw e
 verdict-resetAddress Rs485 M own beside e = refl
 
-verdict-reset : (b : Bus) (M : ℕ) (running : Bool) (own : Address) (beside : ℕ) → Beside b beside 0
+pub verdict-reset : (b : Bus) (M : ℕ) (running : Bool) (own : Address) (beside : ℕ) → Beside b beside 0
     → verdict b M running own beside (resetFrame b) ≡ verdicts.Reset
 unfolding verdict resetFrame same sealed sum run byte bit
 verdict-reset I2c M running own beside e = rw e

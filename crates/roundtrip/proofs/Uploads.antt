@@ -12,14 +12,14 @@ use Rattle.rules.specs.Bytes.{overlay}
 use Rattle.rules.specs.State.{Upload}
 use Rattle.rules.specs.Commit.{Progress, takenAll, finalized}
 use Rattle.rules.specs.Frames.{twoBytes}
-use Rattle.rules.specs.Commands.{restarted, finished, performed}
+use Rattle.rules.specs.Commands.{tabled, restarted, finished, performed}
 use Rattle.laws.proofs.StateLaws.{refusal-unrefused, unrefused-profile}
 use Rattle.laws.proofs.ImageLaws.{begins, finished-flash}
 use Rattle.laws.proofs.OverlayLaws.{getD-overlay-outside}
 use Rattle.roundtrip.specs.Exchanges.{Line, Board, sending, left}
 use Rattle.roundtrip.specs.UploadRoundtrip.{writes, finalize, uploaded, UploadRoundtrip}
 use Rattle.roundtrip.proofs.Exchange.{Exchanged, exchange}
-use Rattle.roundtrip.proofs.Encodes.{finalize-made}
+use Rattle.roundtrip.proofs.Encodes.{plain-made}
 use Rattle.roundtrip.proofs.Written.{Going, going-begins, written-all}
 use Rattle.roundtrip.proofs.Shown.{read-all}
 
@@ -39,10 +39,10 @@ module _ (l : Line) (d image : List ℕ) (some : 1 ≤ length image) (b : Board)
       in-flash u = record { upload = u; flash = b .flash }
 
   pub finalize-exchanged : Exchanged l (sending l b finalize) (g .upload) (g .flash) (twoBytes (g .upload .count))
-  unfolding performed finished
+  unfolding tabled performed finished
   finalize-exchanged =
-      exchange l b (going .ready) finalize 0x07 [] (twoBytes (g .upload .count)) (g .upload) (g .flash) (finalize-made l b (going .ready))
-      refl (λ e. absurd (omega arith))
+      exchange l b (going .ready) finalize 0x07 [] (twoBytes (g .upload .count)) (g .upload) (g .flash)
+      (plain-made l b (going .ready) 0x07 refl refl) refl (λ e. absurd (omega arith))
       (rw standing)
 
 pub upload-roundtrip : UploadRoundtrip

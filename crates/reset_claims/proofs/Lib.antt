@@ -1,0 +1,5 @@
+pub mod Written
+pub mod Resets
+pub mod Known
+pub mod Again
+pub mod OfCode

@@ -1,0 +1,93 @@
+-- W4: what the reset for a running application does to the boards of its bus, and that no bootloader is taken for a running application.
+use mathlib.Core.Path.{_≡_}
+use mathlib.Core.Bool.{true}
+use mathlib.Core.List.{List, [], _∷_}
+use Prim.Native.Nat.{ℕ, _<_}
+use lib.ListN.{length, getD}
+use Rattle.rules.specs.declared.kinds.Bus.{Bus}
+use Rattle.rules.specs.declared.kinds.Address.the-variants.{DefaultRange}
+use Rattle.rules.specs.declared.requests.Request.the-variants.{Plain, Reset}
+use Rattle.rules.specs.Profile.{Profile}
+use Rattle.rules.specs.State.{State}
+use Rattle.rules.specs.Numbers.{refusal}
+use Rattle.rules.specs.Frames.{addressed, destination, commandOf}
+use Rattle.rules.specs.Responses.{ok}
+use Rattle.rules.specs.Board.{Called, received}
+use Rattle.rules.specs.Master.{Decoding, decoded, resultsIn, encoded, Ruled, versionRule, runningReset}
+use Rattle.ledger.specs.Calls.{Frame, Read, Reaction, Board}
+use Rattle.roundtrip.specs.Sending.{Sending, Beside}
+use Rattle.roundtrip.specs.Exchanges as exchange
+use Rattle.roundtrip.specs.Exchanges.{Ok, results}
+
+-- a version that a board answered, and where the master writes its reset
+pub record Asked : Type 0 where
+  pub bus : Bus
+  pub longest : ℕ
+  pub major : ℕ
+  pub minor : ℕ
+  pub room : ℕ
+
+-- the reset is written
+abbrev pub Written : Asked → Type 0
+Written q = runningReset (q .bus) (q .longest) (q .major) (q .minor) (q .room) .number ≡ 0
+
+-- its bytes
+abbrev pub resetBytes : Asked → List ℕ
+resetBytes q = runningReset (q .bus) (q .longest) (q .major) (q .minor) (q .room) .bytes
+
+-- for no version but 0.0, and then it is the encoder's reset
+pub record EncodersReset (q : Asked) : Type 0 where
+  pub major-is : q .major ≡ 0
+  pub minor-is : q .minor ≡ 0
+  pub bytes-are : resetBytes q ≡ encoded (q .bus) (q .longest) Reset 0 [] (q .room) .bytes
+
+abbrev pub WrittenForRunning : Type 0
+WrittenForRunning = (q : Asked) → Written q → EncodersReset q
+
+-- over any board: sent as a general call, on I²C to address 0, it resets every board of that bus that answers none of 2 to 5, running or
+-- not: no reply, the fresh state, the flash as before
+abbrev pub ResetsBoards : Board → Type 0
+ResetsBoards B =
+    (q : Asked) (p : Profile) (s : B .Kept) (d : List ℕ) (a n : ℕ) → Written q → p .bus ≡ q .bus → Beside (q .bus) a 0
+    → B .call p s d (Frame a (resetBytes q) n) .number < 2
+    → B .call p s d (Frame a (resetBytes q) n) ≡ record { number = 1; reply = []; state = B .fresh; flash = d }
+
+-- what the master reads in a reply to a version request that it sent to an address, and the version that it says
+abbrev pub readVersion : Bus → ℕ → List ℕ → Decoding
+readVersion bus to reply = decoded bus 0x00 to 0 reply
+
+abbrev pub saidVersion : Bus → ℕ → List ℕ → Ruled
+saidVersion bus to reply =
+    let said : List ℕ = resultsIn (readVersion bus to reply) reply in
+    versionRule (getD said 0 0) (getD said 1 0)
+
+-- a reply that decodes to OK says a known version
+abbrev pub SaysKnown : Bus → ℕ → List ℕ → Type 0
+SaysKnown bus to reply =
+    readVersion bus to reply .number ≡ 0 → readVersion bus to reply .status ≡ ok → saidVersion bus to reply .number ≡ 0
+
+-- over any board: what it replies to a frame with the version command, and what an I²C read after such a reply gives, says a known
+-- version: it is never taken for a running application's
+pub record BootloaderKnown (B : Board) : Type 0 where
+  pub replied :
+      (p : Profile) (s : B .Kept) (d : List ℕ) (a : ℕ) (f : List ℕ) (n : ℕ) → commandOf (p .bus) f ≡ 0x00
+      → SaysKnown (p .bus) (destination (p .bus) a f) (B .call p s d (Frame a f n) .reply)
+  pub read :
+      (p : Profile) (s : B .Kept) (d : List ℕ) (a : ℕ) (f : List ℕ) (n b m : ℕ) → commandOf (p .bus) f ≡ 0x00
+      → B .call p s d (Frame a f n) .number ≡ 0
+      → let r : Reaction (B .Kept) = B .call p s d (Frame a f n) in
+      SaysKnown (p .bus) b (B .call p (r .state) (r .flash) (Read b m) .reply)
+
+-- the version request to an address, after a call
+abbrev pub askedAgain : Profile → Called → ℕ → ℕ → Sending
+askedAgain p c to n =
+    exchange.sending (record { profile = p; to = to; buffer = n }) (record { state = c .state; flash = c .flash })
+    (record { request = Plain 0x00; bytes = [] })
+
+-- a board that was reset answers the next version request, at every address of the default range, and the master reads 2.2
+abbrev pub AnswersAgain : Type 0
+AnswersAgain =
+    (q : Asked) (p : Profile) (s : State) (d : List ℕ) (a n to : ℕ) → Written q → p .bus ≡ q .bus → Beside (q .bus) a 0
+    → refusal p s (length d) n ≡ 0 → addressed (p .bus) DefaultRange to ≡ true
+    → let x : Sending = askedAgain p (received p s a (resetBytes q) d n) to n in
+    Ok x × (results x ≡ 2 ∷ 2 ∷ [])

@@ -1,0 +1,29 @@
+// W4, version 0.0 is a running program, stated where a reader meets it. The functions do nothing.
+ghost use Rattle.ledger.specs.Calls.{ruled};
+ghost use Rattle.reset_claims.specs.Running.{WrittenForRunning, ResetsBoards, BootloaderKnown, AnswersAgain};
+ghost use Rattle.reset_claims.specs.OfCode.{CodeResets};
+
+// The reset is written for version 0.0 alone, and is the encoder's.
+pub fn written_for_running()
+    ensures { λ _. ⌜ WrittenForRunning ⌝ }
+{}
+
+// It resets every board of its bus that answers none of 2 to 5, running or not.
+pub fn resets_boards()
+    ensures { λ _. ⌜ ResetsBoards ruled ⌝ }
+{}
+
+// A version reply of a bootloader is never taken for a running application's.
+pub fn bootloader_known()
+    ensures { λ _. ⌜ BootloaderKnown ruled ⌝ }
+{}
+
+// After the reset the version request is answered in the default range, by 2.2.
+pub fn answers_again()
+    ensures { λ _. ⌜ AnswersAgain ⌝ }
+{}
+
+// The same of the code: what it wrote, given to `board::receive`.
+pub fn code_resets()
+    ensures { λ _. ⌜ CodeResets ⌝ }
+{}
