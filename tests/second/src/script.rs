@@ -334,8 +334,9 @@ mod tests {
 
     #[test]
     fn reset_of_a_running_application() {
-        let lines = ["A 0 32 0 0", "A 1 256 0 0", "A 1 32 2 2", "A 0 31 0 0", "A 0 32 0 1", "B 0", "A 0 32 0 0", "A 0 32 2 2"];
-        let (output, errors) = answer_all(lines.join("\n").as_bytes());
+        let lines = ["A 0 32 0 0", "A 1 256 0 0", "A 1 32 2 2", "A 0 31 0 0", "A 0 32 0 1"];
+        let without_room = ["B 0", "A 0 32 0 0", "A 0 32 2 2"];
+        let (output, errors) = answer_all([&lines[..], &without_room].concat().join("\n").as_bytes());
         assert!(errors.is_empty());
         let answers: Vec<&str> = output.lines().collect();
         assert_eq!(answers, ["A 0 06 1", "A 0 00468042 1", "A 1 - 1", "A 2 - 1", "A 14 - 1", "A 6 - 1", "A 1 - 1"]);
