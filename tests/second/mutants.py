@@ -16,7 +16,7 @@ import tempfile
 from concurrent.futures import ThreadPoolExecutor
 
 HERE = os.path.dirname(os.path.abspath(__file__))
-RULES = ["model", "sums", "board", "master", "script", "ledger", "check", "rng", "total", "bits", "half_bytes"]
+RULES = ["model", "sums", "board", "master", "script", "ledger", "check", "rng", "total", "bits", "half_bytes", "running"]
 SECONDS = 60
 WORKERS = 2
 
@@ -32,7 +32,7 @@ fn main() {
 }
 """
 CHECK_MAIN = """#![allow(dead_code)]
-mod bits; mod board; mod half_bytes; mod ledger; mod check; mod master; mod model; mod rng; mod sums; mod total;
+mod bits; mod board; mod half_bytes; mod ledger; mod check; mod master; mod model; mod rng; mod running; mod sums; mod total;
 fn main() {
     if let Err(message) = check::all(3000, 3) {
         println!("{message}");
@@ -190,7 +190,8 @@ MUTANTS = [
     ("master", "request of M refused", "if frame.len() > m as usize", "if frame.len() >= m as usize"),
     ("master", "longest read one more", "u64::from(length) + reply_frame_bytes(bus) > u64::from(m)", "u64::from(length) + reply_frame_bytes(bus) > u64::from(m) + 1"),
     ("master", "output of the request's length refused", "bytes.len() > out.len()", "bytes.len() >= out.len()"),
-    ("master", "output compared with M", "bytes.len() > out.len()", "m as usize > out.len()"),
+    ("master", "output compared with M", "    lay(&bytes, out)\n}",
+     "    if m as usize > out.len() {\n        return Answer::only(6);\n    }\n    lay(&bytes, out)\n}"),
     ("master", "shortest reply one more", "reply.len() < frame_bytes", "reply.len() <= frame_bytes"),
     ("master", "I2C bytes after the CRC refused", "reply.len() >= whole", "reply.len() == whole"),
     ("master", "RS485 bytes after the CRC taken", "reply.len() == whole", "reply.len() >= whole"),
@@ -222,7 +223,8 @@ MUTANTS = [
 TEST = "    if reserved(p.bus, u32::from(taken)) {\n        return status(INVALID_ARGUMENTS);\n    }\n"
 REFUSED = "taken)) {\n        return status"
 REFUSAL = "taken)) {\n        return status(INVALID_ARGUMENTS);"
-ENCODER_2 = "    if m_out_of_range(m) {\n        return Answer::only(2);\n    }\n"
+TEST_2 = "    if m_out_of_range(m) {\n        return Answer::only(2);\n    }\n"
+ENCODER_REST = "    let bytes = match request.code {"
 RESERVED = [
     ("model", "0 taken on I2C", "address <= 7 ||", "(1..=7).contains(&address) ||"),
     ("model", "7 taken on I2C", "address <= 7 ||", "address <= 6 ||"),
@@ -272,10 +274,10 @@ RESERVED = [
     ("master", "encoder refuses reserved destinations", "request.destination == 0 ||", "reserved(bus, request.destination) ||"),
     ("master", "encoder refuses reserved flash addresses", "address > 65_535", "address > 65_535 || reserved(Bus::Rs485, address)"),
     ("master", "encoder refuses for type 0 only", "|| reserved(bus, address) ||", "|| hardware == 0 && reserved(bus, address) ||"),
-    ("master", "6 before 7 for set address", ENCODER_2,
-     ENCODER_2 + "    if request.code == 1 && out.len() < 4 {\n        return Answer::only(6);\n    }\n"),
-    ("master", "7 before 2 for set address", ENCODER_2,
-     "    if request.code == 1 && reserved(bus, request.a) {\n        return Answer::only(7);\n    }\n" + ENCODER_2),
+    ("master", "6 before 7 for set address", TEST_2 + ENCODER_REST,
+     TEST_2 + "    if request.code == 1 && out.len() < 4 {\n        return Answer::only(6);\n    }\n" + ENCODER_REST),
+    ("master", "7 before 2 for set address", TEST_2 + ENCODER_REST,
+     "    if request.code == 1 && reserved(bus, request.a) {\n        return Answer::only(7);\n    }\n" + TEST_2 + ENCODER_REST),
 ]
 
 
@@ -351,6 +353,94 @@ HALF_BYTES = [
     ("sums", "CRC-16 moved by three bits", MOVED_16, "(sum >> 3) ^ TABLE16"),
 ]
 
+# version 0.0 and the reset of a running application: the rule's case, the call's tests, and what it writes
+CASE = "        0 if minor == 0 => Err(APPLICATION_RUNNING),\n"
+RESET_TESTS = TEST_2 + "    match version(major, minor) {"
+RESET_MATCH = "    match version(major, minor) {"
+KNOWN = "        Ok(_) => Answer::only(1),"
+WRITTEN = "lay(&general_bytes(bus, 0x06), out)"
+UNKNOWN = "        Err(number) => Answer::only(number),"
+NO_ROOM = "out.len() < general_bytes(bus, 0x06).len()"
+
+
+def before_test_2(condition, number):
+    """The change of the reset call's order: another test comes first."""
+    first = "    if %s {\n        return Answer::only(%d);\n    }\n" % (condition, number)
+    return RESET_TESTS, first + RESET_TESTS
+
+
+def after_test_2(condition, number):
+    """The same, right after the test of M."""
+    first = "    if %s {\n        return Answer::only(%d);\n    }\n" % (condition, number)
+    return RESET_TESTS, TEST_2 + first + RESET_MATCH
+
+
+RUNNING = [
+    # the version rule
+    ("master", "0.0 not known", CASE, ""),
+    ("master", "0.0 known", CASE, "        0 if minor == 0 => Ok((0, 0)),\n"),
+    ("master", "0.0 counts as 2.2", CASE, "        0 if minor == 0 => Ok((2, 2)),\n"),
+    ("master", "0.1 running", CASE, "        0 if minor <= 1 => Err(APPLICATION_RUNNING),\n"),
+    ("master", "0.255 running", CASE, "        0 if minor == 0 || minor == 255 => Err(APPLICATION_RUNNING),\n"),
+    ("master", "every 0 running", CASE, "        0 => Err(APPLICATION_RUNNING),\n"),
+    ("master", "every minor 0 of an unknown major running", CASE, "        0 | 3..=255 if minor == 0 => Err(APPLICATION_RUNNING),\n"),
+    ("master", "3.0 running", CASE, "        0 | 3 if minor == 0 => Err(APPLICATION_RUNNING),\n"),
+    ("master", "only 0.1 running", CASE, "        0 if minor == 1 => Err(APPLICATION_RUNNING),\n"),
+    ("master", "1.0 running", CASE, "        0 | 1 if minor == 0 => Err(APPLICATION_RUNNING),\n"),
+    ("master", "application running is 41", "APPLICATION_RUNNING: u8 = 40", "APPLICATION_RUNNING: u8 = 41"),
+    ("master", "application running is 15", "APPLICATION_RUNNING: u8 = 40", "APPLICATION_RUNNING: u8 = 15"),
+    # the call's tests
+    ("master", "reset: M not tested", RESET_TESTS, RESET_MATCH),
+    ("master", "reset: M from 33", *before_test_2("m == 32", 2)),
+    ("master", "reset: M to 255", *before_test_2("m == 256", 2)),
+    ("master", "reset: M tested for 0.0 only", RESET_TESTS,
+     "    if m_out_of_range(m) && (major, minor) == (0, 0) {\n        return Answer::only(2);\n    }\n" + RESET_MATCH),
+    ("master", "reset: 14 before 2", *before_test_2("version(major, minor) == Err(14)", 14)),
+    ("master", "reset: 1 before 2", *before_test_2("version(major, minor).is_ok()", 1)),
+    ("master", "reset: 6 before 2", *before_test_2("(major, minor) == (0, 0) && " + NO_ROOM, 6)),
+    ("master", "reset: 6 before 14", *after_test_2("version(major, minor).is_err() && " + NO_ROOM, 6)),
+    ("master", "reset: 6 before 1", *after_test_2("version(major, minor).is_ok() && " + NO_ROOM, 6)),
+    ("master", "reset: empty output refused before 1", *after_test_2("version(major, minor).is_ok() && out.is_empty()", 6)),
+    ("master", "reset: output of M bytes needed", *after_test_2("(major, minor) == (0, 0) && out.len() < m as usize", 6)),
+    ("master", "reset: output of just its length refused", WRITTEN,
+     "if out.len() == general_bytes(bus, 0x06).len() { Answer::only(6) } else { lay(&general_bytes(bus, 0x06), out) }"),
+    ("master", "reset: output one byte short taken", WRITTEN,
+     "{ let n = out.len().max(general_bytes(bus, 0x06).len() - 1);\n"
+     "            lay(&general_bytes(bus, 0x06)[..n.min(general_bytes(bus, 0x06).len())], out) }"),
+    ("master", "reset: one byte of room is enough", WRITTEN,
+     "{ let n = out.len().clamp(1, general_bytes(bus, 0x06).len());\n            lay(&general_bytes(bus, 0x06)[..n], out) }"),
+    # its answers
+    ("master", "reset: known version reset", KNOWN, "        Ok(_) => lay(&general_bytes(bus, 0x06), out),"),
+    ("master", "reset: version 1 reset", KNOWN, "        Ok((1, _)) => lay(&general_bytes(bus, 0x06), out),\n" + KNOWN),
+    ("master", "reset: known version answered 0", KNOWN, "        Ok(_) => Answer::only(0),"),
+    ("master", "reset: known version not known", KNOWN, "        Ok(_) => Answer::only(14),"),
+    ("master", "reset: higher minor not known", KNOWN, "        Ok(known) if known != (major, minor) => Answer::only(14),\n" + KNOWN),
+    ("master", "reset: known version touches the output", KNOWN,
+     "        Ok(_) => {\n            out.fill(0);\n            Answer::only(1)\n        }"),
+    ("master", "reset: unknown version answered 1", UNKNOWN, "        Err(_) => Answer::only(1),"),
+    ("master", "reset: unknown version reset", UNKNOWN, "        Err(_) => lay(&general_bytes(bus, 0x06), out),"),
+    ("master", "reset: unknown version touches the output", UNKNOWN,
+     "        Err(number) => {\n            out.fill(0);\n            Answer::only(number)\n        }"),
+    ("master", "reset: 0.0 answered 40", "        Err(APPLICATION_RUNNING) => " + WRITTEN + ",\n", ""),
+    ("master", "reset: 0.0 answered 1", WRITTEN, "Answer::only(1)"),
+    # what it writes
+    ("master", "reset address instead of reset", WRITTEN, "lay(&general_bytes(bus, 0x04), out)"),
+    ("master", "reset of the other bus", WRITTEN,
+     "lay(&general_bytes(if bus == Bus::I2c { Bus::Rs485 } else { Bus::I2c }, 0x06), out)"),
+    ("master", "reset without its check sum", WRITTEN, "lay(&general_bytes(bus, 0x06)[..if bus == Bus::I2c { 1 } else { 2 }], out)"),
+    ("master", "reset with a check sum on I2C", WRITTEN,
+     "{ let mut bytes = general_bytes(bus, 0x06);\n            if bus == Bus::I2c { push_crc8(&mut bytes); }\n"
+     "            lay(&bytes, out) }"),
+    ("master", "reset at the output's end", WRITTEN,
+     "{ let at = out.len().saturating_sub(general_bytes(bus, 0x06).len());\n"
+     "            lay(&general_bytes(bus, 0x06), &mut out[at..]) }"),
+    ("master", "reset written though it doesn't fit", WRITTEN,
+     "{ let bytes = general_bytes(bus, 0x06);\n"
+     "            for (place, byte) in out.iter_mut().zip(&bytes) { *place = *byte; }\n            lay(&bytes, out) }"),
+    ("master", "reset with zeros after it", WRITTEN,
+     "{ let made = lay(&general_bytes(bus, 0x06), out);\n            out[made.len..].fill(0);\n            made }"),
+]
+
 # the check sums bit by bit: tried with the check
 BITS = [
     ("bits", "CRC-8 polynomial", "^ 0x07", "^ 0x31"),
@@ -391,6 +481,11 @@ CHECKED_TOO = [
     "120 taken on I2C", "8 refused on I2C", "247 refused on RS485", "encoder makes reserved addresses",
     "CRC-8 start", "CRC-16 start", "CRC-8 entry 6", "CRC-8 entry 15", "CRC-16 entry 9", "CRC-16 entry 15",
     "CRC-8 low half first", "CRC-16 high half first", "CRC-8 first half only", "CRC-16 moved part dropped",
+    "0.0 not known", "0.0 known", "0.1 running", "every 0 running", "application running is 41",
+    "reset: M not tested", "reset: 14 before 2", "reset: 1 before 2", "reset: 6 before 14", "reset: 6 before 1",
+    "reset: known version reset", "reset: unknown version answered 1", "reset address instead of reset", "reset of the other bus",
+    "reset written though it doesn't fit",
+    "reset not heard while running", "reset keeps own address", "reset keeps the last reply", "version 2.1",
 ]
 
 
@@ -400,7 +495,7 @@ def situations(cases):
     for line in cases.split("\n"):
         if line.startswith("# "):
             current = line[2:]
-        elif line[:1] in ("R", "I", "E", "D", "T", "V"):
+        elif line[:1] in ("R", "I", "E", "D", "T", "V", "A"):
             names.append(current)
     return names
 
@@ -485,9 +580,10 @@ def unchanged_passes(folder, cases, expected):
 
 def try_all(folders, cases, expected):
     names = situations(cases)
-    again = [m for m in RESERVED + HALF_BYTES if m[1] in CHECKED_TOO]
+    rules = MUTANTS + RESERVED + HALF_BYTES + RUNNING
+    again = [m for m in rules if m[1] in CHECKED_TOO]
     assert len(again) == len(CHECKED_TOO)
-    mutants = [("answer", mutant) for mutant in MUTANTS + RESERVED + HALF_BYTES]
+    mutants = [("answer", mutant) for mutant in rules]
     mutants += [("check", mutant) for mutant in LEDGER + BITS + again]
     noticed = 0
     with ThreadPoolExecutor(max_workers=WORKERS) as pool:

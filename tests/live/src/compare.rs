@@ -92,6 +92,8 @@ impl Pair {
             Item::Version { major, minor } | Item::AsideVersion { major, minor } => {
                 self.version(*major, *minor)?;
             }
+            Item::ResetRunning(a) => self.reset_running(a, self.board.room)?,
+            Item::AsideResetRunning(a, room) => self.reset_running(a, *room)?,
             Item::AsideFresh(len) => self.fresh(&vec![UNTOUCHED; *len]).map(|_| ())?,
         }
         Ok(())
@@ -155,21 +157,7 @@ impl Pair {
         if !self.has_profile || !self.has_flash {
             return Err(Stop::Unfit);
         }
-        let standing = &self.board;
-        let profile = buffers.profile.as_deref().unwrap_or(&standing.profile_bytes);
-        let state = buffers.state.as_deref().unwrap_or(standing.lent_state.bytes());
-        let flash_len = buffers.flash.unwrap_or(standing.flash.len()).min(standing.flash.len());
-        let flash = &standing.flash[..flash_len];
-        let mut board = Board {
-            profile: profile_of(profile),
-            state: state_of(state),
-            flash: flash.to_vec(),
-            profile_bytes: profile.to_vec(),
-            lent_profile: Lent::new(profile),
-            lent_state: Lent::new(state),
-            lent_flash: Lent::new(flash),
-            room: buffers.room.unwrap_or(standing.room),
-        };
+        let mut board = self.board.copy(buffers);
         let before = board.state.clone();
         let (number, reply) = board.call(call)?;
         board.count(&mut self.tally, before.as_ref(), call, number, &reply);
@@ -264,10 +252,7 @@ impl Pair {
 
     fn version(&mut self, major: u32, minor: u32) -> Result<(), Difference> {
         let got = library::version(major, minor);
-        let known = match u8::try_from(major) {
-            Ok(major) => master::version(major, minor.min(255) as u8),
-            Err(_) => Err(14),
-        };
+        let known = master::version(version_byte(major), version_byte(minor));
         let wanted = match known {
             Ok((major, minor)) => (0, u32::from(major), u32::from(minor)),
             Err(number) => (u32::from(number), 0, 0),
@@ -277,6 +262,58 @@ impl Pair {
             return Err(Difference::of("the answer", line(wanted), line(got)));
         }
         self.tally.call(Kind::Version, got.0);
+        self.tally.running.version(major, minor, got.0);
+        Ok(())
+    }
+
+    fn reset_running(&mut self, a: &ResetRunning, room: usize) -> Result<(), Difference> {
+        let mut lent = Lent::new(&vec![UNTOUCHED; room]);
+        let got = library::reset_running(a.bus, a.m, a.major, a.minor, &mut lent);
+        let mut out = vec![UNTOUCHED; room];
+        let answer = match bus_of(a.bus) {
+            Some(bus) => master::reset_running(bus, a.m, version_byte(a.major), version_byte(a.minor), &mut out),
+            None => Answer::only(2),
+        };
+        let number = output_same('A', answer, &out, got, &lent)?;
+        self.tally.call(Kind::ResetRunning, number);
+        self.tally.running.called(a, room, number);
+        match (number, bus_of(a.bus)) {
+            (0, Some(bus)) if self.has_profile && self.has_flash => self.send_reset(bus, &lent.bytes()[..got.1]),
+            _ => Ok(()),
+        }
+    }
+
+    /// What the library wrote for a bus, as a general call to a copy of the standing board and, if that doesn't run, to one
+    /// that does.
+    fn send_reset(&mut self, bus: Bus, frame: &[u8]) -> Result<(), Difference> {
+        self.send_reset_to(Buffers::default(), bus, frame)?;
+        match &self.board.state {
+            Some(s) if !s.running => {
+                let state = Some(state_bytes(&State { running: true, ..s.clone() }));
+                self.send_reset_to(Buffers { state, ..Buffers::default() }, bus, frame)
+            }
+            _ => Ok(()),
+        }
+    }
+
+    fn send_reset_to(&mut self, buffers: Buffers, bus: Bus, frame: &[u8]) -> Result<(), Difference> {
+        let call = BoardCall::Receive { address: 0, frame: frame.to_vec() };
+        let mut board = self.board.copy(&buffers);
+        let before = board.state.clone();
+        let made_to_run = buffers.state.is_some();
+        let name = if made_to_run { "the board made to run" } else { "the board" };
+        let sent = |what: &str| format!("the reset, sent to {name}: {what}");
+        let (number, reply) = board.call(&call).map_err(|d| Difference { what: sent(&d.what), ..d })?;
+        board.count(&mut self.tally, before.as_ref(), &call, number, &reply);
+        if let (Some(p), Some(before), 0 | 1) = (&board.profile, &before, number) {
+            // request W4 itself, whatever the second program's board says
+            let fresh = state_of(board.lent_state.bytes()).is_some_and(|s| same_state(&s, &State::fresh()));
+            let reset = number == 1 && fresh && board.lent_flash.bytes() == self.board.lent_flash.bytes();
+            if p.bus == bus && !reset {
+                return Err(Difference::only(&sent("it is not reset")));
+            }
+            self.tally.running.sent(bus, p, before, made_to_run);
+        }
         Ok(())
     }
 }
@@ -299,6 +336,11 @@ fn bus_of(bus: u32) -> Option<Bus> {
     }
 }
 
+/// 255 stands for all numbers above it: no such major is known, every such minor counts as the highest.
+fn version_byte(number: u32) -> u8 {
+    number.min(255) as u8
+}
+
 /// A request of both sides; the number, if they are the same.
 fn request_same(
     bus: u32,
@@ -313,12 +355,16 @@ fn request_same(
         Some(bus) => master::encode(bus, m, request, &mut out),
         None => Answer::only(2),
     };
-    let what = output_fault(answer, &out, got, lent);
-    let Some(what) = what else {
+    output_same('E', answer, &out, got, lent)
+}
+
+/// The number, if number, length made and every byte of the output are the same.
+fn output_same(letter: char, answer: Answer, out: &[u8], got: (u32, usize), lent: &Lent) -> Result<u32, Difference> {
+    let Some(what) = output_fault(answer, out, got, lent) else {
         return Ok(got.0);
     };
-    let second = format!("E {} {} 1", answer.number, hex(&out[..answer.len]));
-    Err(Difference { what, second, library: format!("E {}", output_text(got, lent)) })
+    let second = format!("{letter} {} {} 1", answer.number, hex(&out[..answer.len]));
+    Err(Difference { what, second, library: format!("{letter} {}", output_text(got, lent)) })
 }
 
 /// What differs in number, length made and output bytes.
@@ -354,6 +400,24 @@ fn output_text(got: (u32, usize), lent: &Lent) -> String {
 }
 
 impl Board {
+    /// A copy on both sides, with buffers of its own where they are given.
+    fn copy(&self, buffers: &Buffers) -> Board {
+        let profile = buffers.profile.as_deref().unwrap_or(&self.profile_bytes);
+        let state = buffers.state.as_deref().unwrap_or(self.lent_state.bytes());
+        let flash_len = buffers.flash.unwrap_or(self.flash.len()).min(self.flash.len());
+        let flash = &self.flash[..flash_len];
+        Board {
+            profile: profile_of(profile),
+            state: state_of(state),
+            flash: flash.to_vec(),
+            profile_bytes: profile.to_vec(),
+            lent_profile: Lent::new(profile),
+            lent_state: Lent::new(state),
+            lent_flash: Lent::new(flash),
+            room: buffers.room.unwrap_or(self.room),
+        }
+    }
+
     fn count(&self, tally: &mut Tally, before: Option<&State>, call: &BoardCall, number: u32, reply: &[u8]) {
         let rs485 = self.profile_bytes.first() == Some(&1);
         let kind = match (call, rs485) {

@@ -28,6 +28,7 @@ pub enum Item {
         major: u32,
         minor: u32,
     },
+    ResetRunning(ResetRunning),
     /// A board call with buffers of its own, on copies of state and flash.
     Aside(BoardCall, Buffers),
     /// The request encoder with any numbers and a room of its own.
@@ -43,6 +44,8 @@ pub enum Item {
         major: u32,
         minor: u32,
     },
+    /// The reset of a running application with any numbers and a room of its own.
+    AsideResetRunning(ResetRunning, usize),
     /// The fresh state in a buffer of this length.
     AsideFresh(usize),
 }
@@ -71,6 +74,14 @@ pub struct Decode {
     pub address: u32,
     pub asked: u32,
     pub reply: Vec<u8>,
+}
+
+#[derive(Clone, Debug)]
+pub struct ResetRunning {
+    pub bus: u32,
+    pub m: u32,
+    pub major: u32,
+    pub minor: u32,
 }
 
 /// Profile bytes, state bytes, length of the flash and of the output; none: the standing one.
@@ -112,11 +123,13 @@ impl Item {
                 format!("T {code} {asked} {} {}", hex(first), hex(second))
             }
             Item::Version { major, minor } => format!("V {major} {minor}"),
+            Item::ResetRunning(a) => a.text(),
             Item::Aside(call, own) => format!("#! {} {}", call.text(), own.text()),
             Item::AsideEncode(e, room) => format!("#! {} {room}", e.text()),
             Item::General { bus, m, reset, room } => format!("#! G {bus} {m} {reset} {room}"),
             Item::AsideDecode(d) => format!("#! {}", d.text()),
             Item::AsideVersion { major, minor } => format!("#! V {major} {minor}"),
+            Item::AsideResetRunning(a, room) => format!("#! {} {room}", a.text()),
             Item::AsideFresh(len) => format!("#! Z {len}"),
         }
     }
@@ -157,6 +170,13 @@ impl Decode {
     fn text(&self) -> String {
         let Decode { bus, code, address, asked, reply } = self;
         format!("D {bus} {code} {address} {asked} {}", hex(reply))
+    }
+}
+
+impl ResetRunning {
+    fn text(&self) -> String {
+        let ResetRunning { bus, m, major, minor } = self;
+        format!("A {bus} {m} {major} {minor}")
     }
 }
 
@@ -234,6 +254,7 @@ fn plain(letter: &str, f: &[&str]) -> Result<Item, String> {
             second: bytes(second, MOST_BYTES)?,
         },
         ("V", [major, minor]) => Item::Version { major: number(major, 255)?, minor: number(minor, 255)? },
+        ("A", _) => Item::ResetRunning(reset_running(f, 1, 255)?),
         _ => return Err(format!("no line of letter `{letter}` has these fields")),
     })
 }
@@ -261,6 +282,9 @@ fn aside(letter: &str, f: &[&str]) -> Result<Item, String> {
         },
         ("D", _) => Item::AsideDecode(decode(f, all, all)?),
         ("V", [major, minor]) => Item::AsideVersion { major: number(major, all)?, minor: number(minor, all)? },
+        ("A", [call @ .., room]) => {
+            Item::AsideResetRunning(reset_running(call, all, all)?, number(room, MOST_ROOM as u32)? as usize)
+        }
         ("Z", [len]) => Item::AsideFresh(number(len, 1000)? as usize),
         _ => return Err(format!("no `#!` line of letter `{letter}` has these fields")),
     })
@@ -301,6 +325,18 @@ fn decode(f: &[&str], most_bus: u32, most_address: u32) -> Result<Decode, String
         address: number(address, most_address)?,
         asked: number(asked, u32::MAX)?,
         reply: bytes(reply, MOST_BYTES)?,
+    })
+}
+
+fn reset_running(f: &[&str], most_bus: u32, most_version: u32) -> Result<ResetRunning, String> {
+    let [bus, m, major, minor] = f else {
+        return Err("wrong number of fields after `A`".to_string());
+    };
+    Ok(ResetRunning {
+        bus: number(bus, most_bus)?,
+        m: number(m, u32::MAX)?,
+        major: number(major, most_version)?,
+        minor: number(minor, most_version)?,
     })
 }
 

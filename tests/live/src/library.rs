@@ -72,6 +72,15 @@ mod c {
             len: *mut usize,
         ) -> u32;
         pub fn childbus_version(major: u32, minor: u32, known_major: *mut u32, known_minor: *mut u32) -> u32;
+        pub fn childbus_reset_running(
+            bus: u32,
+            longest: u32,
+            major: u32,
+            minor: u32,
+            out: *mut u8,
+            out_len: usize,
+            made: *mut usize,
+        ) -> u32;
     }
 }
 
@@ -184,4 +193,12 @@ pub fn version(major: u32, minor: u32) -> (u32, u32, u32) {
     let (mut known_major, mut known_minor) = (UNSET as u32, UNSET as u32);
     let number = unsafe { c::childbus_version(major, minor, &mut known_major, &mut known_minor) };
     (number, known_major, known_minor)
+}
+
+/// The number, and the length of the request.
+pub fn reset_running(bus: u32, m: u32, major: u32, minor: u32, out: &mut Lent) -> (u32, usize) {
+    let (o, on) = out.write();
+    let mut made = UNSET;
+    let number = unsafe { c::childbus_reset_running(bus, m, major, minor, o, on, &mut made) };
+    (number, made)
 }

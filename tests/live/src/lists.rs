@@ -120,7 +120,7 @@ fn with_more(rng: &mut Rng, items: Vec<Item>) -> Vec<Item> {
 }
 
 fn more(rng: &mut Rng, p: &Profile) -> Item {
-    match rng.below(18) {
+    match rng.below(24) {
         0..=4 => aside(rng, p),
         5 => Item::AsideEncode(any_encode(rng), rng.of(&[0, 1, 3, 4, 5, 7, 8, 31, 32, 255, 256, 257, 300]) as usize),
         6 => exact_encode(rng),
@@ -134,13 +134,12 @@ fn more(rng: &mut Rng, p: &Profile) -> Item {
         10 => two_reads(rng),
         11..=14 => set_address_encode(rng),
         15 | 16 => set_address_aside(rng, p),
-        _ => match rng.below(3) {
-            0 => Item::AsideFresh(rng.of(&[0, 1, 84, 339, 340, 341, 400]) as usize),
-            _ => Item::AsideVersion {
-                major: rng.of(&[0, 1, 2, 2, 3, 255, 256, 257, 258, 65_538, 4_294_967_295]) as u32,
-                minor: rng.of(&[0, 1, 2, 3, 255, 256, 257, 4_294_967_295]) as u32,
-            },
-        },
+        17..=20 => any_reset_running(rng, p),
+        21 | 22 => {
+            let (major, minor) = any_version(rng);
+            Item::AsideVersion { major, minor }
+        }
+        _ => Item::AsideFresh(rng.of(&[0, 1, 84, 339, 340, 341, 400]) as usize),
     }
 }
 
@@ -407,4 +406,33 @@ fn two_reads(rng: &mut Rng) -> Item {
     let code = any_code(rng);
     let asked = rng.of(&[0, 1, 5, 27, 100, 253, 255, 4_294_967_295]) as u32;
     Item::TwoReads { code, asked, first, second }
+}
+
+/// The reset of a running application, mostly for the board's bus and M, into a room near its length.
+fn any_reset_running(rng: &mut Rng, p: &Profile) -> Item {
+    let bus = match rng.below(10) {
+        0 => rng.of(&[2, 9, 256, 257, 4_294_967_295]) as u32,
+        1 | 2 => rng.below(2) as u32,
+        _ => p.bus as u32,
+    };
+    let (major, minor) = any_version(rng);
+    let m = if rng.percent(40) { p.m } else { rng.of(&[31, 32, 64, 256, 257, 288, 65_568, 4_294_967_295]) as u32 };
+    let whole = if bus == 1 { 4 } else { 1 };
+    let room = rng.of(&[0, whole - 1, whole, whole, whole + 1, 5, 256]) as usize;
+    Item::AsideResetRunning(ResetRunning { bus, m, major, minor }, room)
+}
+
+/// Running, next to it, known, and numbers that are one of these in their low bits.
+fn any_version(rng: &mut Rng) -> (u32, u32) {
+    let (major, minor) = match rng.below(10) {
+        0..=3 => (0, 0),
+        4 | 5 => (0, rng.of(&[1, 2, 255, 256, 65_536, 4_294_967_295])),
+        6 => (rng.of(&[3, 255, 256, 256, 65_536]), 0),
+        7 | 8 => (1 + rng.below(2), rng.of(&[0, 1, 2, 3, 255, 256, 257, 4_294_967_295])),
+        _ => {
+            let major = rng.of(&[0, 1, 2, 2, 3, 255, 256, 257, 258, 65_538, 4_294_967_295]);
+            (major, rng.of(&[0, 1, 2, 3, 255, 256, 257, 4_294_967_295]))
+        }
+    };
+    (major as u32, minor as u32)
 }

@@ -3,6 +3,7 @@
 use crate::compare::{Difference, Pair, Stop};
 use crate::items::*;
 use crate::layout::{profile_of, state_of, STATE_BYTES};
+use rules::check::general_frame;
 use rules::master::{RESET_ADDRESS_CALL, RESET_CALL};
 use rules::model::*;
 use rules::sums::{crc16_right, crc8_right, push_crc16, push_crc8};
@@ -168,6 +169,14 @@ fn plain(item: &Item) -> Option<Vec<Item>> {
         Item::AsideVersion { major, minor } if *major < 256 && *minor < 256 => {
             Some(vec![Item::Version { major: *major, minor: *minor }])
         }
+        Item::AsideResetRunning(a, room) if a.bus < 2 && a.major < 256 && a.minor < 256 => {
+            Some(vec![Item::Room(*room), Item::ResetRunning(a.clone())])
+        }
+        // the board's part of it
+        Item::ResetRunning(ResetRunning { bus, major: 0, minor: 0, .. }) => {
+            let frame = general_frame(if *bus == 0 { Bus::I2c } else { Bus::Rs485 }, 6);
+            Some(vec![Item::Board(BoardCall::Receive { address: 0, frame })])
+        }
         _ => None,
     }
 }
@@ -216,6 +225,11 @@ fn simpler(item: &Item, profile: Option<&Profile>) -> Vec<Item> {
         }
         Item::AsideVersion { major, .. } => {
             [0, 3, 255, 256].iter().map(|&minor| Item::AsideVersion { major: *major, minor }).collect()
+        }
+        Item::ResetRunning(a) => resets(a).into_iter().map(Item::ResetRunning).collect(),
+        Item::AsideResetRunning(a, room) => {
+            let simpler = resets(a).into_iter().map(|other| Item::AsideResetRunning(other, *room));
+            simpler.chain([0, 1, 3, 4].map(|room| Item::AsideResetRunning(a.clone(), room))).collect()
         }
         _ => Vec::new(),
     }
@@ -344,6 +358,26 @@ fn encodes(e: &Encode) -> Vec<Encode> {
     with(&|e| e.to = 8);
     for data in shorter(&e.data).into_iter().chain(zeroed(&e.data)) {
         with(&|e| e.data = data.clone());
+    }
+    list
+}
+
+fn resets(a: &ResetRunning) -> Vec<ResetRunning> {
+    let mut list: Vec<ResetRunning> = Vec::new();
+    let mut with = |change: &dyn Fn(&mut ResetRunning)| {
+        let mut other = a.clone();
+        change(&mut other);
+        list.push(other);
+    };
+    for bus in [0, 1, 2] {
+        with(&|a| a.bus = bus);
+    }
+    for m in [0, 32, 31, 256, 257] {
+        with(&|a| a.m = m);
+    }
+    for number in [0, 1, 3, 255, 256] {
+        with(&|a| a.major = number);
+        with(&|a| a.minor = number);
     }
     list
 }

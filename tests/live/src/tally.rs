@@ -2,6 +2,7 @@
 
 use crate::address_edges::AddressEdges;
 use crate::half_bytes::HalfBytes;
+use crate::running::Running;
 use rules::ledger::Event;
 use rules::model::*;
 
@@ -15,14 +16,16 @@ pub enum Kind {
     Decode,
     TwoReads,
     Version,
+    ResetRunning,
     Fresh,
 }
 
-const KINDS: usize = 9;
-const NUMBERS: usize = 15;
+const KINDS: usize = 10;
+/// The numbers that calls answer.
+const NUMBERS: [u32; 16] = [0, 1, 2, 3, 4, 5, 6, 7, 8, 9, 10, 11, 12, 13, 14, 40];
 
 /// Name, and the numbers that its calls can answer.
-const ROWS: [(&str, &[usize]); KINDS] = [
+const ROWS: [(&str, &[u32]); KINDS] = [
     ("frame, I2C", &[0, 1, 2, 3, 4, 5]),
     ("frame, RS485", &[0, 1, 2, 3, 4, 5]),
     ("I2C read", &[0, 1, 2, 3, 4, 5]),
@@ -30,7 +33,8 @@ const ROWS: [(&str, &[usize]); KINDS] = [
     ("general call", &[0, 2, 6]),
     ("decoder", &[0, 7, 8, 9, 10, 11, 12, 13]),
     ("two reads", &[0, 1, 2]),
-    ("version rule", &[0, 14]),
+    ("version rule", &[0, 14, 40]),
+    ("reset running", &[0, 1, 2, 6, 14]),
     ("fresh state", &[0, 4]),
 ];
 
@@ -42,7 +46,8 @@ pub struct Tally {
     pub calls: u64,
     pub aside: u64,
     pub most_flash: usize,
-    numbers: [[u64; NUMBERS]; KINDS],
+    /// By kind and by place in `NUMBERS`.
+    numbers: [[u64; NUMBERS.len()]; KINDS],
     /// Decoded replies by status.
     pub decoded: [u64; 6],
     /// Replies to frames by status.
@@ -61,12 +66,18 @@ pub struct Tally {
     silent: u64,
     pub address_edges: AddressEdges,
     pub half_bytes: HalfBytes,
+    pub running: Running,
+}
+
+/// The place of a number in `NUMBERS`.
+fn column(number: u32) -> usize {
+    NUMBERS.iter().position(|&n| n == number).expect("both sides answered a number of the papers")
 }
 
 impl Tally {
     pub fn call(&mut self, kind: Kind, number: u32) {
         self.calls += 1;
-        self.numbers[kind as usize][(number as usize).min(NUMBERS - 1)] += 1;
+        self.numbers[kind as usize][column(number)] += 1;
     }
 
     /// A frame to the standing board, from the second program's states.
@@ -137,7 +148,7 @@ impl Tally {
     }
 
     pub fn lines(&self) -> Vec<String> {
-        let head: String = (0..NUMBERS).map(|n| format!("{n:>9}")).collect();
+        let head: String = NUMBERS.iter().map(|n| format!("{n:>9}")).collect();
         let mut lines = vec![format!("{:<14}{head}", "answers")];
         for ((name, _), row) in ROWS.iter().zip(&self.numbers) {
             let cells: String =
@@ -150,6 +161,7 @@ impl Tally {
         lines.push(parts.join(", "));
         lines.extend(self.address_edges.lines());
         lines.push(self.half_bytes.line());
+        lines.extend(self.running.lines());
         lines.push(format!("calls with buffers of their own {}, longest flash {}", self.aside, self.most_flash));
         lines
     }
@@ -158,7 +170,7 @@ impl Tally {
     pub fn missing(&self) -> Vec<String> {
         let mut missing = Vec::new();
         for ((name, possible), row) in ROWS.iter().zip(&self.numbers) {
-            missing.extend(possible.iter().filter(|&&n| row[n] == 0).map(|n| format!("{name}: number {n}")));
+            missing.extend(possible.iter().filter(|&&n| row[column(n)] == 0).map(|n| format!("{name}: number {n}")));
         }
         // this board never says COMMAND_FAILED
         missing.extend([0, 2, 3, 4, 5].iter().filter(|&&s| self.statuses[s] == 0).map(|s| format!("status {s}")));
@@ -166,6 +178,7 @@ impl Tally {
         missing.extend(self.happened().iter().filter(|(_, n)| *n == 0).map(|(name, _)| name.to_string()));
         missing.extend(self.address_edges.missing());
         missing.extend(self.half_bytes.missing());
+        missing.extend(self.running.missing());
         missing
     }
 }

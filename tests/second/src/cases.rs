@@ -185,6 +185,16 @@ impl Sheet {
     pub fn version(&mut self, major: u8, minor: u8) {
         self.line(&format!("V {major} {minor}"));
     }
+
+    pub fn reset_running(&mut self, bus: Bus, m: u32, major: u8, minor: u8) {
+        self.line(&format!("A {} {m} {major} {minor}", bus_number(bus)));
+    }
+
+    /// The reply or request in the last output line.
+    pub fn made(&self) -> String {
+        let line = self.expected.lines().last().unwrap_or("");
+        line.split(' ').nth(2).unwrap_or("-").to_string()
+    }
 }
 
 /// A reply in its frame.
@@ -216,7 +226,7 @@ fn random_list(sheet: &mut Sheet, rng: &mut Rng) {
             86..=89 => random_encode(sheet, rng),
             90..=94 => random_decode(sheet, rng),
             95..=96 => random_two_reads(sheet, rng),
-            97 => sheet.version(rng.byte() % 4, rng.byte() % 5),
+            97 => random_version(sheet, rng),
             _ => random_change(sheet, rng, &p),
         }
     }
@@ -343,6 +353,7 @@ fn random_change(sheet: &mut Sheet, rng: &mut Rng, p: &Profile) {
 
 fn random_board_call(sheet: &mut Sheet, rng: &mut Rng, p: &Profile, image: &[u8]) {
     if sheet.runner.state.running && rng.percent(35) {
+        sheet.reset_running(p.bus, p.m, 0, 0);
         return sheet.general(6);
     }
     if rng.percent(8) {
@@ -520,4 +531,21 @@ fn random_two_reads(sheet: &mut Sheet, rng: &mut Rng) {
     let second = random_reply(rng, Bus::I2c, 0);
     let asked = rng.of(&[0, 1, 2, 5, 30]) as u32;
     sheet.two_reads(rng.below(15) as u32, asked, &first, &second);
+}
+
+/// A version to the version rule, and one to the call that resets running applications.
+fn random_version(sheet: &mut Sheet, rng: &mut Rng) {
+    let (first, second) = (rng.number(), rng.number());
+    let (major, minor) = (first as u8 % 4, second as u8 % 5);
+    sheet.version(major, minor);
+    // numbers of its own, so that the rest of a seed's list doesn't depend on what is drawn here
+    let mut own = Rng::new(first);
+    let (major, minor) = if own.percent(40) { (0, 0) } else { (major, minor) };
+    let bus = BUSES[own.below(2) as usize];
+    let m = own.of(&[31, 32, 33, 64, 128, 255, 256, 256, 257]) as u32;
+    let room = own.of(&[0, 1, 2, 3, 4, 5, 32, 256]);
+    let before = sheet.runner.room;
+    sheet.room(room as usize);
+    sheet.reset_running(bus, m, major, minor);
+    sheet.room(before);
 }

@@ -18,6 +18,7 @@ use crate::ledger::{Event, Ledger, Seen};
 use crate::master::{self, Request};
 use crate::model::*;
 use crate::rng::Rng;
+use crate::running;
 use crate::sums::{push_crc16, push_crc8};
 use crate::total;
 
@@ -577,6 +578,7 @@ pub fn all(lists: u64, depth: u32) -> Result<Vec<String>, String> {
     report.push(format!("ledger by hand: {} calls", ledger_by_hand()?));
     report.push(format!("master against board: {} requests", round_trip()?));
     report.push(format!("new addresses, encoder against board: {}", new_addresses()?));
+    report.push(running::compare(4, lists)?);
     report.push(format!("all lists of up to {depth} calls: {} calls", exhaustive(depth)?));
     let [calls, commits, finalizes, repeats, moves, reserved] = random(1, lists)?;
     report.push(format!(

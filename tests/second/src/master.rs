@@ -1,4 +1,4 @@
-//! The master: request encoder, reply decoder, two reads, version rule.
+//! The master: request encoder, reply decoder, two reads, version rule, reset of a running application.
 
 use crate::model::*;
 use crate::sums::*;
@@ -32,10 +32,15 @@ pub fn encode(bus: Bus, m: u32, request: &Request, out: &mut [u8]) -> Answer {
             None => return Answer::only(7),
         },
     };
+    lay(&bytes, out)
+}
+
+/// The request in the lent output's first places, or number 6 if it doesn't fit.
+fn lay(bytes: &[u8], out: &mut [u8]) -> Answer {
     if bytes.len() > out.len() {
         return Answer::only(6);
     }
-    out[..bytes.len()].copy_from_slice(&bytes);
+    out[..bytes.len()].copy_from_slice(bytes);
     Answer { number: 0, len: bytes.len() }
 }
 
@@ -192,11 +197,29 @@ pub fn two_reads<'a>(code: u32, asked: u32, first: &'a [u8], second: &'a [u8]) -
     (0, &[])
 }
 
-/// The version that a board's version counts as, or number 14.
+/// The version rule's number for "application running", the version 0.0. Document 02 gives none: this one is neither 0 nor
+/// 14, and no other call answers it.
+pub const APPLICATION_RUNNING: u8 = 40;
+
+/// The version that a board's version counts as; else number 40 (application running) or 14 (not known).
 pub fn version(major: u8, minor: u8) -> Result<(u8, u8), u8> {
     match major {
+        0 if minor == 0 => Err(APPLICATION_RUNNING),
         1 => Ok((1, minor.min(1))),
         2 => Ok((2, minor.min(2))),
         _ => Err(14),
+    }
+}
+
+/// The reset for the boards of a bus on which this version was answered: the general call that ends a running application.
+/// Numbers 2 (M only), 14, 6 in this order. A known version is 1, whatever the room: there is nothing to send.
+pub fn reset_running(bus: Bus, m: u32, major: u8, minor: u8, out: &mut [u8]) -> Answer {
+    if m_out_of_range(m) {
+        return Answer::only(2);
+    }
+    match version(major, minor) {
+        Ok(_) => Answer::only(1),
+        Err(APPLICATION_RUNNING) => lay(&general_bytes(bus, 0x06), out),
+        Err(number) => Answer::only(number),
     }
 }

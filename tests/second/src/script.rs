@@ -45,6 +45,7 @@ impl Runner {
             "D" => decode(rest).map(Some),
             "T" => two_reads(rest).map(Some),
             "V" => version(rest).map(Some),
+            "A" => self.reset_running(rest).map(Some),
             other => Err(format!("unknown line letter `{other}`")),
         }
     }
@@ -147,10 +148,27 @@ impl Runner {
             b: number("b", f[5], MOST_NUMBER)? as u32,
             data: &data,
         };
+        Ok(self.request('E', |out| master::encode(bus, m, &request, out)))
+    }
+
+    fn reset_running(&self, f: Fields) -> Result<String, String> {
+        count_fields(f, 4)?;
+        let bus = bus(f[0])?;
+        let m = number("M", f[1], MOST_NUMBER)? as u32;
+        let major = number("major", f[2], 255)? as u8;
+        let minor = number("minor", f[3], 255)? as u8;
+        Ok(self.request('A', |out| master::reset_running(bus, m, major, minor, out)))
+    }
+
+    /// A call that lays a request into the lent output.
+    fn request<C>(&self, letter: char, call: C) -> String
+    where
+        C: FnOnce(&mut [u8]) -> Answer,
+    {
         let mut out = vec![UNTOUCHED; self.room];
-        let answer = master::encode(bus, m, &request, &mut out);
+        let answer = call(&mut out);
         let made = hex(&out[..answer.len]);
-        Ok(format!("E {} {made} {}", answer.number, rest_untouched(&out, answer.len)))
+        format!("{letter} {} {made} {}", answer.number, rest_untouched(&out, answer.len))
     }
 }
 
@@ -309,9 +327,22 @@ mod tests {
     #[test]
     fn bad_lines_are_told_and_skipped() {
         let (output, errors) = answer_all(b"V 2 9\nV 2\nR 8 00f3\nQ\nV 2 x\nD 0 0 8 0 0\nV 0 0\n");
-        assert_eq!(output, "V 0 2 2\nV 14 0 0\n");
+        assert_eq!(output, "V 0 2 2\nV 40 0 0\n");
         assert_eq!(errors.len(), 5);
         assert!(errors[0].starts_with("line 2: "));
+    }
+
+    #[test]
+    fn reset_of_a_running_application() {
+        let lines = ["A 0 32 0 0", "A 1 256 0 0", "A 1 32 2 2", "A 0 31 0 0", "A 0 32 0 1"];
+        let without_room = ["B 0", "A 0 32 0 0", "A 0 32 2 2"];
+        let (output, errors) = answer_all([&lines[..], &without_room].concat().join("\n").as_bytes());
+        assert!(errors.is_empty());
+        let answers: Vec<&str> = output.lines().collect();
+        assert_eq!(answers, ["A 0 06 1", "A 0 00468042 1", "A 1 - 1", "A 2 - 1", "A 14 - 1", "A 6 - 1", "A 1 - 1"]);
+        let bad = ["A 2 32 0 0", "A 0 32 256 0", "A 0 32 0 256", "A 0 32 0", "A 0 32 0 0 0", "A 0 x 0 0"];
+        let (output, errors) = answer_all(bad.join("\n").as_bytes());
+        assert_eq!((output.as_str(), errors.len()), ("", bad.len()));
     }
 
     #[test]

@@ -79,7 +79,19 @@ fn any_master(rng: &mut Rng, p: &Profile, bytes: &[u8]) -> Result<(), String> {
         demand(d.start + d.length <= bytes.len(), "results outside the reply")?;
     }
     let (_, results) = master::two_reads(code, a, bytes, &out);
-    demand(results.len() <= 255, "more than 255 results")
+    demand(results.len() <= 255, "more than 255 results")?;
+    any_version(rng, p)
+}
+
+fn any_version(rng: &mut Rng, p: &Profile) -> Result<(), String> {
+    let (major, minor) = (rng.byte() % 4, rng.byte() % 4);
+    let mut out = vec![0xa5; rng.below(7) as usize];
+    let made = master::reset_running(p.bus, any_number(rng), major, minor, &mut out);
+    let rest = out.get(made.len..).unwrap_or(&[]);
+    demand(rest.iter().all(|&byte| byte == 0xa5), "bytes after the reset were touched")?;
+    demand((made.number == 0) == (made.len > 0), "number 0 and a reset go together")?;
+    let running = master::version(major, minor) == Err(master::APPLICATION_RUNNING);
+    demand(made.number != 0 || running, "a reset for a version that isn't running")
 }
 
 /// The ledger takes nonsense too.

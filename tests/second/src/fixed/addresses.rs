@@ -1,6 +1,6 @@
 //! Fixed cases: heard addresses, set address, general calls, running.
 
-use super::{image, state, title, with_bad_crc};
+use super::{busy_state, image, state, title, with_bad_crc};
 use crate::cases::{Sheet, BUSES};
 use rules::check::{framed, general_frame};
 use rules::model::*;
@@ -87,14 +87,6 @@ pub fn general_calls(sheet: &mut Sheet) {
         general_calls_amid_upload(sheet, bus);
         while_running(sheet, bus);
     }
-}
-
-/// A state with every part in use.
-fn busy_state(bus: Bus, running: bool) -> State {
-    let mut s = state(70, 6, 3, if bus == Bus::I2c { 5 } else { 0 });
-    s.own = Own::Address(9);
-    s.running = running;
-    s
 }
 
 fn every_general_call(sheet: &mut Sheet, bus: Bus) {

@@ -292,16 +292,10 @@ fn reads(sheet: &mut Sheet, bus: Bus) {
     for (code, args) in calls {
         let frame = framed(bus, 8, code, args);
         sheet.frame(8, &frame);
-        let made = last_reply_text(sheet);
+        let made = sheet.made();
         let number = if bus == Bus::I2c { 0 } else { 1 };
         sheet.line(&format!("D {number} {code} 8 9 {made}"));
     }
-}
-
-/// The reply field of the last output line.
-fn last_reply_text(sheet: &Sheet) -> String {
-    let line = sheet.expected.lines().last().unwrap_or("");
-    line.split(' ').nth(2).unwrap_or("-").to_string()
 }
 
 // ---- two reads

@@ -8,11 +8,12 @@ mod half_bytes;
 mod master;
 mod refusals;
 mod reserved;
+mod running;
 mod uploads;
 mod writes;
 
 use crate::cases::Sheet;
-use rules::model::{Bus, State};
+use rules::model::{Bus, Own, State};
 
 pub fn all() -> Sheet {
     let mut sheet = Sheet::default();
@@ -31,6 +32,7 @@ pub fn all() -> Sheet {
     master::decoder(&mut sheet);
     master::two_reads(&mut sheet);
     master::versions(&mut sheet);
+    running::running_applications(&mut sheet);
     append_random(&mut sheet);
     sheet
 }
@@ -69,6 +71,14 @@ fn state(next: u32, w: u32, count: u32, reply_len: u32) -> State {
     for (k, byte) in s.reply.iter_mut().enumerate() {
         *byte = 0xff - k as u8;
     }
+    s
+}
+
+/// A state with every part in use.
+fn busy_state(bus: Bus, running: bool) -> State {
+    let mut s = state(70, 6, 3, if bus == Bus::I2c { 5 } else { 0 });
+    s.own = Own::Address(9);
+    s.running = running;
     s
 }
 
