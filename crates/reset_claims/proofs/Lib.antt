@@ -3,3 +3,4 @@ pub mod Resets
 pub mod Known
 pub mod Again
 pub mod OfCode
+pub mod WrongCases

@@ -2,6 +2,7 @@
 ghost use Rattle.ledger.specs.Calls.{ruled};
 ghost use Rattle.reset_claims.specs.Running.{WrittenForRunning, ResetsBoards, BootloaderKnown, AnswersAgain};
 ghost use Rattle.reset_claims.specs.OfCode.{CodeResets};
+ghost use Rattle.reset_claims.specs.WrongResets.{ignoresReset, resetsAddress, erasesFlash, answersZero, readsZero, EveryReadKnown};
 
 // The reset is written for version 0.0 alone, and is the encoder's.
 pub fn written_for_running()
@@ -26,4 +27,19 @@ pub fn answers_again()
 // The same of the code: what it wrote, given to `board::receive`.
 pub fn code_resets()
     ensures { λ _. ⌜ CodeResets ⌝ }
+{}
+
+// A board that hears no reset while its application runs, one that takes it for a reset address, and one that erases the flash: refuted.
+pub fn wrong_resets()
+    ensures { λ _. ⌜ (ResetsBoards ignoresReset → ⊥) × (ResetsBoards resetsAddress → ⊥) × (ResetsBoards erasesFlash → ⊥) ⌝ }
+{}
+
+// A board that answers 0.0, and one whose reads say it: refuted.
+pub fn wrong_versions()
+    ensures { λ _. ⌜ (BootloaderKnown answersZero → ⊥) × (BootloaderKnown readsZero → ⊥) ⌝ }
+{}
+
+// On I²C a version request that got no reply leaves the last reply of another command to be read: the claim on reads needs its condition.
+pub fn stale_read_fails()
+    ensures { λ _. ⌜ (EveryReadKnown ruled → ⊥) ⌝ }
 {}
