@@ -12,6 +12,7 @@ import tempfile
 
 PAGE = 64
 ENDS = ("upload done", "holds the whole image", "partly uploaded", "not uploaded", "not begun")
+RESETS = ("the bootloader answers", "the bootloader runs already", "the application still runs", "no version came after", "no version came:")
 
 
 class Board:
@@ -26,10 +27,11 @@ class Board:
     def setup(self, bus, size, offset):
         self.bus, self.size, self.offset = bus, size, offset
         self.fresh()
-        self.last = 0
+        self.last, self.answers = 0, False
 
     def fresh(self):
         self.next, self.count, self.held, self.running, self.last = 0, 0, b"", False, 0
+        self.answered = False
 
     def place(self):
         return self.next - len(self.held)
@@ -56,6 +58,9 @@ class Board:
         """One frame to the board; (status or None, whether it was an OK to finalize)."""
         length = {"write": 3, "read": 4}.get(command, 1) + len(data) + (1 if self.bus == "i2c" else 3)
         damaged = self.strikes("byte", length)
+        if self.running and self.answers and command == "version" and not damaged:
+            self.answered = True
+            return self.sent(0, 2), False
         if self.running or damaged and self.bus == "rs485":
             self.silences += 1
             return None, False
@@ -67,10 +72,33 @@ class Board:
         status, results, finalized = self.execute(command, data)
         return self.replied(status, results), finalized
 
+    def reply_length(self, results):
+        return results + (3 if self.bus == "i2c" else 5)
+
     def replied(self, status, results):
-        length = results + (3 if self.bus == "i2c" else 5)
-        self.last = length if self.bus == "i2c" else 0
-        return None if self.strikes("reply", length) else status
+        self.last = self.reply_length(results) if self.bus == "i2c" else 0
+        return self.sent(status, results)
+
+    def sent(self, status, results):
+        return None if self.strikes("reply", self.reply_length(results)) else status
+
+    def readable(self):
+        """How long the reply is that an I2C read gets; 0 for none."""
+        if self.bus != "i2c":
+            return 0
+        if self.running:
+            return self.reply_length(2) if self.answered else 0
+        return self.last
+
+    def general(self, reset):
+        """A general call, damaged perhaps: then it is none, on I2C another byte to address 0, on RS485 a wrong check sum."""
+        damaged = self.strikes("byte", 1 if self.bus == "i2c" else 4)
+        if reset and not damaged:
+            self.fresh()
+        elif self.running or damaged:
+            self.silences += 1
+        else:
+            self.last = 0
 
     def execute(self, command, data):
         if command == "write":
@@ -121,6 +149,20 @@ def call(board, e, command, data=b""):
     return status
 
 
+def reset_running(board, e):
+    if call(board, e, "version") != 0:
+        e.end = "no version came:"
+        return
+    if not board.running:
+        e.end = "the bootloader runs already"
+        return
+    board.general(reset=True)
+    if call(board, e, "version") != 0:
+        e.end = "no version came after"
+    else:
+        e.end = "the application still runs" if board.running else "the bootloader answers"
+
+
 def upload(board, e, data, frame):
     if call(board, e, "info") != 0 or len(data) > board.size:
         e.end = "not begun"
@@ -159,7 +201,9 @@ def line(board, rng):
 
 def make_line(board, rng, e):
     often = ["write"] * 8 + ["finalize"] * 3 + ["upload"] * 3 + ["damage"] * 4 + ["reset"] * 2
-    kind = rng.choice(often + ["start", "reset-address", "version", "read-again", "board", "flash"])
+    kind = rng.choice(often + ["start", "reset-address", "version", "read-again", "board", "flash", "application", "reset-running"])
+    if board.running and rng.random() < 0.5:
+        kind = rng.choice(["application", "damage", "damage", "version", "read-again", "reset-running", "reset-running"])
     byte = rng.choice([0x00, 0x11, 0x22, 0xff])
     if kind == "board":
         place, held, offset = board.place(), board.held, board.offset
@@ -174,19 +218,28 @@ def make_line(board, rng, e):
         return f"flash fill {byte:02x}"
     if kind == "damage":
         what, n, after = rng.choice(["byte", "reply"]), rng.randint(1, 6), rng.choice([0, 0, 0, 1, 2, 3, 5])
+        if board.running:
+            # the reset of a reset-running is its second frame, and has one byte on I2C
+            n, after = rng.choice([1, 1, n]), rng.choice([1, 1, after])
         board.hit[what] = (n, after)
         return f"damage {what} {n}" + (f" after {after}" if after else "")
+    if kind == "application":
+        board.answers, board.answered = rng.random() < 0.7, False
+        return f"application {'answers' if board.answers else 'silent'}"
     if kind == "upload":
         data, frame = bytes([byte]) * rng.randint(1, 270), rng.choice([20, 40, 58])
         upload(board, e, data, frame)
         e.waiting = None
         return f"upload fill {byte:02x} {len(data)} frames {frame}"
     if kind == "read-again":
-        if board.bus == "i2c" and not board.running and board.last:
-            board.strikes("reply", board.last)
+        if board.readable():
+            board.strikes("reply", board.readable())
         else:
             board.silences += 1
         text = "i2c-read"
+    elif kind == "reset-running":
+        text = kind
+        reset_running(board, e)
     elif kind == "write":
         board.at = rng.choice([0, board.next, board.next, rng.randint(0, 250)])
         data = bytes([byte]) * rng.randint(0, 58)
@@ -195,15 +248,7 @@ def make_line(board, rng, e):
     elif kind in ("reset", "reset-address"):
         text = kind
         place, held = board.place(), board.held
-        general = 1 if board.bus == "i2c" else 4
-        # A damaged general call is none: on I2C another byte to address 0, on RS485 a wrong check sum.
-        damaged = board.strikes("byte", general)
-        if kind == "reset" and not damaged:
-            board.fresh()
-        elif board.running or damaged:
-            board.silences += 1
-        else:
-            board.last = 0
+        board.general(reset=kind == "reset")
         n = lost(board, place, held)
         e.lost = [n] if n else []
     else:
@@ -219,7 +264,7 @@ def said(text):
     e.waiting = [int(n) for n in re.findall(r"\*\* (?:OK, )?(\d+) bytes? still wait", text)]
     e.unworn = len(re.findall(r"\*\* 0 pages erased:", text))
     e.silent = len(re.findall(r"\*\* (?:no reply: |nothing to read)", text))
-    ends = [w for w in ENDS if w in text]
+    ends = [w for w in ENDS + RESETS if w in text]
     e.end = ends[0] if len(ends) == 1 else (ends or None)
     return e
 
@@ -239,7 +284,7 @@ def main():
         board = Board(bytearray(b"\xff" * 131072))
         steps = [line(board, rng) for _ in range(rng.randint(5, 40))]
         out, status = run(bench, [t for t, _ in steps])
-        failed = any(e.end and e.end != "upload done" for _, e in steps)
+        failed = any(e.end in ENDS[1:] for _, e in steps)
         alarmed = failed or board.silences or board.held or any(e.lost for _, e in steps)
         if status != (3 if alarmed else 0):
             sys.exit(f"script {k} of seed {seed}: status {status}")
@@ -262,7 +307,7 @@ def main():
         if len(chunks) != len(steps):
             sys.exit(f"script {k} of seed {seed}: {len(chunks)} lines of {len(steps)} were run")
     print(f"{scripts} scripts, alarms as expected: " + ", ".join(f"{n} {c}" for n, c in sorted(seen.items())))
-    missing = {"lost", "still wait", "0 pages erased", "silent", *ENDS} - set(seen)
+    missing = {"lost", "still wait", "0 pages erased", "silent", *ENDS, *RESETS} - set(seen)
     if missing and scripts >= 100:
         sys.exit(f"never seen: {missing}")
 

@@ -40,6 +40,9 @@ impl Damage {
 pub struct Bench {
     pub profile: Profile,
     pub state: State,
+    // the application answers the version request while it runs; it has answered one since it runs
+    pub answers: bool,
+    pub answered: bool,
     // where the master sends to
     pub to: usize,
     // the command that the board's last reply belongs to, and the length that it asked for
@@ -85,6 +88,8 @@ impl Bench {
         Bench {
             profile: default_profile(Bus::I2c),
             state: State::fresh(),
+            answers: false,
+            answered: false,
             to: FIRST_ADDRESS,
             code: 0,
             asked: 0,
@@ -111,11 +116,20 @@ impl Bench {
         s.address
     }
 
-    // Another board, fresh.
+    // Another board, fresh, whose application is silent.
     pub fn with_board(mut self, p: Profile) -> Self {
         self.profile = p;
         self.state = State::fresh();
+        self.answers = false;
+        self.answered = false;
         self.to = FIRST_ADDRESS;
+        self
+    }
+
+    // Another application, which answers the version request or is silent.
+    pub fn with_application(mut self, answers: bool) -> Self {
+        self.answers = answers;
+        self.answered = false;
         self
     }
 
@@ -129,6 +143,13 @@ impl Bench {
         self.code = code;
         self.asked = asked;
         self.state = s;
+        self
+    }
+
+    // After a frame to which the application replied, or not.
+    pub fn after_application(mut self, replied: bool) -> Self {
+        let s = self.state;
+        self.answered = s.running && (replied || self.answered);
         self
     }
 

@@ -4,7 +4,9 @@ use bench_memory::memory::EARLIER;
 use bench_memory::memory::FLASH;
 use bench_memory::memory::IMAGE;
 use bench_memory::memory::part;
+use frame_sizes::shortest_reply;
 use profile::Profile;
+use rules::kinds::Address;
 use rules::kinds::Bus;
 use rules::kinds::Outcome;
 use rules::kinds::Verdict;
@@ -40,10 +42,40 @@ pub(crate) fn read(p: Profile, s: State, address: u8, memory: &[u8], out: &mut [
     readout::read(p, s, address, part(memory, 0, FLASH), out)
 }
 
-pub(crate) fn classify(p: Profile, s: State, address: u8, frame: &[u8]) -> Verdict {
-    let own = s.address;
+// What a frame is to a board with this profile and address, whose application runs or not.
+pub(crate) fn classify(
+    p: Profile,
+    own: Address,
+    running: bool,
+    address: u8,
+    frame: &[u8],
+) -> Verdict {
     let bus = p.bus;
-    verdict::classify(bus, p.longest, s.running, own, address, frame)
+    verdict::classify(bus, p.longest, running, own, address, frame)
+}
+
+// Where a frame was sent.
+pub(crate) fn destination(bus: Bus, address: u8, frame: &[u8]) -> u8 {
+    frame::request::destination(bus, address, frame)
+}
+
+// Whether an address is this board's.
+pub(crate) fn addressed(bus: Bus, own: Address, at: u8) -> bool {
+    addressing::addressed(bus, own, at)
+}
+
+// A reply with status OK and so many results, which stand in the output already: its length; 0 where the output has no room for it.
+pub(crate) fn close_reply(bus: Bus, to: u8, count: usize, out: &mut [u8]) -> usize {
+    if 255 < count {
+        return 0;
+    }
+    if out.len() < count {
+        return 0;
+    }
+    if out.len() - count < shortest_reply(bus) {
+        return 0;
+    }
+    frame::reply::close(bus, to, 0, count, out)
 }
 
 pub(crate) fn encode(

@@ -1,9 +1,9 @@
 // Requests that the master makes and sends.
 use crate::bench::Bench;
 use crate::frames::Exchange;
-use crate::frames::no_reply;
 use crate::frames::send;
 use crate::library;
+use crate::replies::no_reply;
 use bench_memory::memory;
 use bench_memory::memory::FLASH;
 use bench_memory::memory::IMAGE;

@@ -1,4 +1,4 @@
-// Lines of one word by which the master makes a request: commands without arguments, and the general calls.
+// Lines of one word by which the master makes a request: commands without arguments, the general calls, and `reset-running`.
 use bench_exchange::bench::Bench;
 use bench_exchange::bench::FIRST_ADDRESS;
 use bench_exchange::requests::command;
@@ -9,6 +9,8 @@ use bench_script::fields::is_end;
 use bench_words::PlainWord;
 use rules::requests::Request;
 
+mod running;
+
 // A command without arguments.
 fn plain(d: Bench, code: usize, memory: &mut [u8]) -> Bench {
     let asked = command(d, code, 0, true);
@@ -16,14 +18,18 @@ fn plain(d: Bench, code: usize, memory: &mut [u8]) -> Bench {
     done.bench
 }
 
-// The two general calls. The master sends to the default range again.
-fn reset(d: Bench, r: Request, memory: &mut [u8]) -> Bench {
-    let done = request(d, r, general(d), 0, 0, memory);
-    let after = done.bench;
-    if after.to != FIRST_ADDRESS {
+// After a general call the master sends to the default range again.
+pub(crate) fn after_general(d: Bench) -> Bench {
+    if d.to != FIRST_ADDRESS {
         tell(b"  the master sends to % from now on\n", FIRST_ADDRESS);
     }
-    after.sending_to(FIRST_ADDRESS)
+    d.sending_to(FIRST_ADDRESS)
+}
+
+// The two general calls.
+fn reset(d: Bench, r: Request, memory: &mut [u8]) -> Bench {
+    let done = request(d, r, general(d), 0, 0, memory);
+    after_general(done.bench)
 }
 
 // A line of one word.
@@ -38,6 +44,7 @@ fn run_word(d: Bench, word: PlainWord, memory: &mut [u8]) -> Bench {
         PlainWord::Start => plain(d, 0x05, memory),
         PlainWord::Reset => reset(d, Request::Reset, memory),
         PlainWord::ResetAddress => reset(d, Request::ResetAddress, memory),
+        PlainWord::ResetRunning => running::run_reset(d, memory),
     }
 }
 

@@ -2,9 +2,9 @@
 use bench_alarms::alarm::tell_waiting_after;
 use bench_exchange::bench::Bench;
 use bench_exchange::frames::Exchange;
-use bench_exchange::frames::decoded;
-use bench_exchange::frames::read_reply;
 use bench_exchange::frames::send;
+use bench_exchange::replies::decoded;
+use bench_exchange::replies::read_reply;
 use bench_exchange::requests::command;
 use bench_exchange::requests::request;
 use bench_exchange::requests::waiting;

@@ -1,4 +1,4 @@
-// Lines that set the bench up: the board, the flash, where the master sends to, and damage.
+// Lines that set the bench up: the board, the flash, where the master sends to, damage, and the application.
 use crate::boards;
 use bench_alarms::alarm::tell_left_waiting;
 use bench_exchange::bench::Bench;
@@ -14,6 +14,7 @@ use bench_script::fields::fault;
 use bench_script::fields::first;
 use bench_script::fields::hex_byte;
 use bench_script::fields::is;
+use bench_script::fields::is_end;
 use bench_script::fields::number;
 use bench_script::fields::rest;
 use bench_script::image::DataKind;
@@ -152,12 +153,51 @@ fn set_damage(d: Bench, s: &[u8]) -> Bench {
     damage_wrong(d)
 }
 
-// What follows `board`, `flash`, `to` or `damage`.
+fn application_wrong(d: Bench) -> Bench {
+    d.refused(b"application answers, or application silent")
+}
+
+// `application answers`, after which nothing may follow.
+fn application_answers(d: Bench, more: &[u8]) -> Bench {
+    if !is_end(more) {
+        return application_wrong(d);
+    }
+    say(b"  while it runs, the application answers the version request with 0.0\n");
+    d.with_application(true)
+}
+
+// `application silent`, after which nothing may follow.
+fn application_silent(d: Bench, more: &[u8]) -> Bench {
+    if !is_end(more) {
+        return application_wrong(d);
+    }
+    say(b"  while it runs, the application is silent\n");
+    d.with_application(false)
+}
+
+fn set_application(d: Bench, s: &[u8]) -> Bench {
+    if is(first(s), b"answers") {
+        return application_answers(d, rest(s));
+    }
+    if is(first(s), b"silent") {
+        return application_silent(d, rest(s));
+    }
+    fault(
+        b"application",
+        first(s),
+        b": answers or silent follows\n",
+        0,
+    );
+    application_wrong(d)
+}
+
+// What follows `board`, `flash`, `to`, `damage` or `application`.
 pub fn run_line(d: Bench, word: SetupWord, s: &[u8], memory: &mut [u8]) -> Bench {
     match word {
         SetupWord::Board => boards::set_board(d, s, memory),
         SetupWord::Flash => set_flash(d, s, memory),
         SetupWord::To => set_destination(d, s),
         SetupWord::Damage => set_damage(d, s),
+        SetupWord::Application => set_application(d, s),
     }
 }

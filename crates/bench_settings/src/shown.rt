@@ -43,11 +43,29 @@ fn tell_address(own: Address) {
     }
 }
 
-fn tell_running(running: bool) {
-    if running {
-        say(b"; the application runs\n");
+// A running application: whether it answers.
+fn tell_application(answers: bool) {
+    if answers {
+        say(b"; the application runs, and answers the version request\n");
+    } else {
+        say(b"; the application runs, and is silent\n");
+    }
+}
+
+// A running bootloader, and whether the application will answer; that it is silent is not said.
+fn tell_bootloader(answers: bool) {
+    if answers {
+        say(b"; the bootloader runs; the application, once started, answers the version request\n");
     } else {
         say(b"; the bootloader runs\n");
+    }
+}
+
+fn tell_running(running: bool, answers: bool) {
+    if running {
+        tell_application(answers);
+    } else {
+        tell_bootloader(answers);
     }
 }
 
@@ -55,7 +73,7 @@ fn show_state(d: Bench) {
     let s = d.state;
     let own = s.address;
     tell_address(own);
-    tell_running(s.running);
+    tell_running(s.running, d.answers);
     tell_all(
         b"  next address %, waiting bytes %, erase count %, last reply % bytes\n",
         [s.upload.next, s.upload.held, s.upload.count, s.last.len, 0],
@@ -150,6 +168,8 @@ fn show_help() {
   to ADDRESS                                     where the master sends to
   write ADDRESS HEX | write ADDRESS fill BYTE COUNT | write ADDRESS file NAME
   finalize | read ADDRESS LENGTH | start | reset | reset-address
+  reset-running                                  ask for the version; reset if that is an application's, 0.0
+  application answers | application silent       whether a running application answers the version request
   upload file NAME frames N | upload fill BYTE COUNT frames N | upload HEX frames N
   send ADDRESS BYTES                             a frame as it is, all in hexadecimal: send 08 00f3
   i2c-read [ADDRESS]                             read the last reply once more

@@ -19,8 +19,19 @@ use rules::requests::Decoded;
 use rules::requests::Encoded;
 use rules::requests::Request;
 
+// The number of version 0.0, an application's. Document 01 has none for it.
+pub(crate) const APPLICATION_RUNNING: usize = 40;
+
 // A number with its meaning, and what to do about it. Piece n is number n's.
 pub fn tell_number(n: usize) {
+    if n == APPLICATION_RUNNING {
+        say(
+            b"  number 40, the application runs; the board is not faulty
+    do: reset-running, or reset, brings the bootloader back
+",
+        );
+        return;
+    }
     say_piece(
         n,
         b"  number 0, made\n|  number 1, nothing to send\n|  number 2, profile out of range

@@ -56,6 +56,10 @@ fn tell_known(v: Version) {
             b", which counts as %.%\n",
             [as_usize(major), as_usize(minor), 0, 0, 0],
         ),
+        Version::ApplicationRunning => {
+            say(b"\n");
+            meaning::tell_number(meaning::APPLICATION_RUNNING);
+        }
         Version::Unknown => {
             say(b"\n");
             meaning::tell_number(14);

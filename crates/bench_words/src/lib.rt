@@ -7,6 +7,7 @@ pub enum SetupWord {
     Flash,
     To,
     Damage,
+    Application,
 }
 
 // Lines that show how the bench stands.
@@ -36,6 +37,7 @@ pub enum PlainWord {
     Start,
     Reset,
     ResetAddress,
+    ResetRunning,
 }
 
 pub enum Word {
@@ -46,6 +48,19 @@ pub enum Word {
     Plain(PlainWord),
     Quit,
     Unknown,
+}
+
+fn rare_word(word: &[u8]) -> Word {
+    if is(word, b"reset-running") {
+        return Word::Plain(PlainWord::ResetRunning);
+    }
+    if is(word, b"application") {
+        return Word::Setup(SetupWord::Application);
+    }
+    if is(word, b"quit") {
+        return Word::Quit;
+    }
+    Word::Unknown
 }
 
 fn order_word(word: &[u8]) -> Word {
@@ -61,10 +76,7 @@ fn order_word(word: &[u8]) -> Word {
     if is(word, b"reset-address") {
         return Word::Plain(PlainWord::ResetAddress);
     }
-    if is(word, b"quit") {
-        return Word::Quit;
-    }
-    Word::Unknown
+    rare_word(word)
 }
 
 fn query_word(word: &[u8]) -> Word {

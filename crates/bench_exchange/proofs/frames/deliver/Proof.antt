@@ -4,14 +4,11 @@ use borrow.Author.Needs.{needs}
 use Rattle.bench_exchange.proofs.frames.deliver.Statement.{statement}
 use Rattle.bench_exchange.proofs.frames.deliver.Tie as tie
 
-call-board-requires : tie.Need-call-board-requires
-call-board-requires c κs = search needs
+answer-frame-requires : tie.Need-answer-frame-requires
+answer-frame-requires c κs = search needs
 
-exchanged-requires : tie.Need-exchanged-requires
-exchanged-requires c κs = search needs
-
-losing-requires : tie.Need-losing-requires
-losing-requires c κs = search needs
+after-call-requires : tie.Need-after-call-requires
+after-call-requires c κs = search needs
 
 fetched-requires : tie.Need-fetched-requires
 fetched-requires c κs = search needs
@@ -34,8 +31,8 @@ after-reply-requires c κs = search needs
 same-length : tie.Need-same-length
 same-length c =
     let told = c .before .before .before .before in
-    let called = told .before .before .before .before .before .before .before .before .before .before in
-    omega (arith, told .tell-since .kept .1 .1 .1 .0, called .call-board .kept .1 .1 .1 .0)
+    let called = told .before .before .before .before .before .before .before .before .before in
+    omega (arith, told .tell-since .kept .1 .1 .1 .0, called .answer-frame .kept .1 .1 .1 .0)
 
 returns : tie.Need-returns
 returns c = search needs
@@ -44,9 +41,8 @@ pub deliver-spec : {M : Type 1} → statement M
 deliver-spec =
     tie.close
     (tie.spec
-    call-board-requires
-    exchanged-requires
-    losing-requires
+    answer-frame-requires
+    after-call-requires
     fetched-requires
     decoded-requires
     tell-alarms-requires
