@@ -46,6 +46,7 @@ extern "C" {
 #define CHILDBUS_REPLY_STATUS_UNKNOWN  12u  /* status above 5 */
 #define CHILDBUS_RESULTS_MISSING       13u  /* OK without all of the command's fixed part */
 #define CHILDBUS_VERSION_UNKNOWN       14u  /* version not known */
+#define CHILDBUS_APPLICATION_RUNNING   40u  /* version 0.0: an application answers, not the bootloader */
 
 /* Statuses: the byte with which a reply begins (on RS485 after the address). This board has results with OK only. */
 #define CHILDBUS_OK                    0u
@@ -267,13 +268,32 @@ uint32_t childbus_two_reads(uint32_t code, uint32_t asked, const uint8_t *first,
 
 /*
  * The version rule: minors 0 and 1 of major 1 and 0 to 2 of major 2 are known; a higher one counts as the highest.
+ * Exactly 0.0 is an application's: the board is well, and its application runs (childbus_reset_running).
  *
- *   major, minor               as the board answered to CHILDBUS_CMD_VERSION
- *   known_major, known_minor   the version it counts as; 0 and 0 with answer 14
+ *   major, minor               as the board answered to CHILDBUS_CMD_VERSION, with status OK
+ *   known_major, known_minor   the version it counts as; 0 and 0 with answers 14 and 40
  *
- * Answers 0; 14 for any other major.
+ * Answers 0; 40 for 0.0; 14 for any other. Library versions before 0.4.0 answered 14 for 0.0 too: a caller that takes
+ * every number but 0 for "not known" still does so.
  */
 uint32_t childbus_version(uint32_t major, uint32_t minor, uint32_t *known_major, uint32_t *known_minor);
+
+/*
+ * The master: what to send to a board that answered this version. Where an application runs (0.0) it is the
+ * general-call reset, the same bytes that childbus_general makes; send it on I2C to address 0. It resets every board on
+ * the bus: their own addresses and open uploads are gone, flash is as it was. Then ask the version again, in the default
+ * range.
+ *
+ *   bus, longest   as for childbus_encode
+ *   major, minor   as the board answered to CHILDBUS_CMD_VERSION, with status OK
+ *   out, out_len   room for the request: 1 byte on I2C, 4 on RS485
+ *   made           the request's length with 0, else 0
+ *
+ * Answers 0; 1 for a known version: the bootloader runs, and there is nothing to send; or 2, 14, 6, tested in this
+ * order. 6 only where there is a request to write.
+ */
+uint32_t childbus_reset_running(uint32_t bus, uint32_t longest, uint32_t major, uint32_t minor, uint8_t *out,
+                                size_t out_len, size_t *made);
 
 #ifdef __cplusplus
 }

@@ -128,6 +128,32 @@ static void try_reserved(struct master *master)
     printf("  address 0: refused by encoder and board\n");
 }
 
+/* The application runs and answers the version request with 0.0. This example has no application, so its reply stands here. The reset that
+ * follows reaches all boards; then the bootloader answers, in the default range. */
+static void leave_application(struct master *master)
+{
+    static const uint8_t i2c[] = {CHILDBUS_OK, 2, 0, 0, 0x07}, rs485[] = {ADDRESS, CHILDBUS_OK, 2, 0, 0, 0x59, 0xc1};
+    const bool on_i2c = master->bus == CHILDBUS_I2C;
+    const uint8_t *reply = on_i2c ? i2c : rs485;
+    uint8_t request[CHILDBUS_FRAME_MAX];
+    uint32_t status, known_major, known_minor;
+    size_t start, len;
+
+    if (childbus_decode(master->bus, CHILDBUS_CMD_VERSION, ADDRESS, 0, reply, on_i2c ? sizeof i2c : sizeof rs485, &status, &start, &len) !=
+            CHILDBUS_MADE || status != CHILDBUS_OK)
+        fail("the application's reply can't be read");
+    const uint32_t major = reply[start], minor = reply[start + 1];
+    if (childbus_version(major, minor, &known_major, &known_minor) != CHILDBUS_APPLICATION_RUNNING)
+        fail("the application is taken for something else");
+    if (childbus_reset_running(master->bus, master->longest, major, minor, request, sizeof request, &len) != CHILDBUS_MADE ||
+        exchange(master, CHILDBUS_GENERAL_CALL, request, len) != 0 || board_running(master->board))
+        fail("the board was not reset");
+    const uint8_t *r = ask(master, CHILDBUS_CMD_VERSION, CHILDBUS_DEFAULT_FIRST, 0, 0, &len);
+    if (childbus_reset_running(master->bus, master->longest, r[0], r[1], request, sizeof request, &len) != CHILDBUS_NOTHING)
+        fail("a bootloader is to be reset");
+    printf("  version %u.%u: the application runs; reset, then version %u.%u\n", (unsigned)major, (unsigned)minor, r[0], r[1]);
+}
+
 static void run_master(struct board *board, uint32_t bus, const uint8_t *image)
 {
     struct master master = {.board = board, .bus = bus, .longest = CHILDBUS_FRAME_MIN};
@@ -188,6 +214,7 @@ static void run_master(struct board *board, uint32_t bus, const uint8_t *image)
         if (board->flash[i] != 0xff)
             fail("flash behind the image was changed");
     printf("  flash outside the image: unchanged\n");
+    leave_application(&master);
 }
 
 int main(void)

@@ -8,6 +8,7 @@ use bench_exchange::requests::general;
 use bench_exchange::requests::request;
 use bench_output::say;
 use bench_wording::meaning::tell_number;
+use numbers::reset_number;
 use rules::requests::Request;
 use rules::requests::RunningReset;
 
@@ -22,17 +23,6 @@ fn reset_for(d: Bench, version: usize, out: &mut [u8]) -> RunningReset {
     let major = (version / 256 % 256) as u8;
     let minor = (version % 256) as u8;
     reset_running::reset_running(bus, d.profile.longest, major, minor, out)
-}
-
-// The number of an answer.
-fn reset_number(r: RunningReset) -> usize {
-    match r {
-        RunningReset::Made(_) => 0,
-        RunningReset::VersionKnown => 1,
-        RunningReset::FrameOutOfRange => 2,
-        RunningReset::VersionUnknown => 14,
-        RunningReset::OutputTooShort => 6,
-    }
 }
 
 // An answer that is no reset, by its number.
@@ -75,7 +65,8 @@ fn tell_end(asked: Exchange) {
         return;
     }
     let mut out = [0u8; 256];
-    tell_back(reset_number(reset_for(asked.bench, asked.result.value, &mut out)));
+    let r = reset_for(asked.bench, asked.result.value, &mut out);
+    tell_back(reset_number(r) as usize);
 }
 
 fn ask_again(d: Bench, memory: &mut [u8]) -> Bench {
@@ -97,7 +88,7 @@ fn reset_answered(d: Bench, version: usize, memory: &mut [u8]) -> Bench {
     let mut out = [0u8; 256];
     let r = reset_for(d, version, &mut out);
     let RunningReset::Made(n) = r else {
-        tell_not_made(reset_number(r));
+        tell_not_made(reset_number(r) as usize);
         return d;
     };
     if 256 < n {

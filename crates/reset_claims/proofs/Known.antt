@@ -29,8 +29,8 @@ use Rattle.reset_claims.specs.Running.{SaysKnown, BootloaderKnown}
 -- no reply decodes to nothing
 none-said : (bus : Bus) (to : ℕ) → SaysKnown bus to []
 unfolding tabled decoded
-none-said I2c to e = absurd (omega (arith, e))
-none-said Rs485 to e = absurd (omega (arith, e))
+none-said I2c to major minor more e = absurd (omega (arith, e))
+none-said Rs485 to major minor more e = absurd (omega (arith, e))
 
 ends : (bus : Bus) → Ends bus []
 ends I2c = tt
@@ -51,9 +51,11 @@ module _ (bus : Bus) (to status : ℕ) (results : List ℕ) (known : status ≤ 
   -- OK with the results 2, 2, or another status
   says-known : (status ≡ ok → results ≡ 2 ∷ 2 ∷ []) → SaysKnown bus to (reply bus to status results)
   unfolding versionRule
-  says-known is e status-ok =
+  says-known is major minor more e status-ok said =
       let ok-is : status ≡ ok = sym (ap (λ (d : Decoding). d .status) decoded-is) ∙ status-ok in
-      rw (results-are, is ok-is)
+      let two : major ∷ minor ∷ more ≡ 2 ∷ 2 ∷ [] = sym said ∙ results-are ∙ is ok-is in
+      let major-is : major ≡ 2 = ap (λ (l : List ℕ). getD l 0 0) two in
+      rw major-is
 
 -- any command with the version's code
 module _ (p : Profile) (s : State) (code : ℕ) (args d : List ℕ) (to : ℕ) (code-is : code ≡ 0x00) where

@@ -3,7 +3,7 @@ use mathlib.Core.Path.{_≡_}
 use mathlib.Core.Bool.{true}
 use mathlib.Core.List.{List, [], _∷_}
 use Prim.Native.Nat.{ℕ, _<_}
-use lib.ListN.{length, getD}
+use lib.ListN.{length}
 use Rattle.rules.specs.declared.kinds.Bus.{Bus}
 use Rattle.rules.specs.declared.kinds.Address.the-variants.{DefaultRange}
 use Rattle.rules.specs.declared.requests.Request.the-variants.{Plain, Reset}
@@ -13,7 +13,7 @@ use Rattle.rules.specs.Numbers.{refusal}
 use Rattle.rules.specs.Frames.{addressed, destination, commandOf}
 use Rattle.rules.specs.Responses.{ok}
 use Rattle.rules.specs.Board.{Called, received}
-use Rattle.rules.specs.Master.{Decoding, decoded, resultsIn, encoded, Ruled, versionRule, runningReset}
+use Rattle.rules.specs.Master.{Decoding, decoded, resultsIn, encoded, versionRule, runningReset}
 use Rattle.ledger.specs.Calls.{Frame, Read, Reaction, Board}
 use Rattle.roundtrip.specs.Sending.{Sending, Beside}
 use Rattle.roundtrip.specs.Exchanges as exchange
@@ -52,19 +52,16 @@ ResetsBoards B =
     → B .call p s d (Frame a (resetBytes q) n) .number < 2
     → B .call p s d (Frame a (resetBytes q) n) ≡ record { number = 1; reply = []; state = B .fresh; flash = d }
 
--- what the master reads in a reply to a version request that it sent to an address, and the version that it says
+-- what the master reads in a reply to a version request that it sent to an address
 abbrev pub readVersion : Bus → ℕ → List ℕ → Decoding
 readVersion bus to reply = decoded bus 0x00 to 0 reply
-
-abbrev pub saidVersion : Bus → ℕ → List ℕ → Ruled
-saidVersion bus to reply =
-    let said : List ℕ = resultsIn (readVersion bus to reply) reply in
-    versionRule (getD said 0 0) (getD said 1 0)
 
 -- a reply that decodes to OK says a known version
 abbrev pub SaysKnown : Bus → ℕ → List ℕ → Type 0
 SaysKnown bus to reply =
-    readVersion bus to reply .number ≡ 0 → readVersion bus to reply .status ≡ ok → saidVersion bus to reply .number ≡ 0
+    (major minor : ℕ) (more : List ℕ) → readVersion bus to reply .number ≡ 0 → readVersion bus to reply .status ≡ ok
+    → resultsIn (readVersion bus to reply) reply ≡ major ∷ minor ∷ more
+    → versionRule major minor .number ≡ 0
 
 -- over any board: what it replies to a frame with the version command, and what an I²C read after such a reply gives, says a known
 -- version: it is never taken for a running application's

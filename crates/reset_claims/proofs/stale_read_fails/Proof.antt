@@ -17,7 +17,7 @@ stale : EveryReadKnown ruled → ⊥
 unfolding computingReset
 stale h =
     let known : _≡_ {A = ℕ} 40 0 =
-    h (small I2c 64) (withLast fresh (reply I2c 8 0 (0 ∷ 0 ∷ []))) (zeros 64) 20 (request I2c 20 0x00 []) 128 8 128 refl refl refl in
+    h (small I2c 64) (withLast fresh (reply I2c 8 0 (0 ∷ 0 ∷ []))) (zeros 64) 20 (request I2c 20 0x00 []) 128 8 128 refl 0 0 [] refl refl refl in
     omega arith
 
 returns : tie.Need-returns

@@ -16,13 +16,13 @@ use Rattle.reset_claims.proofs.wrong_versions.Tie as tie
 zero-answered : BootloaderKnown answersZero → ⊥
 unfolding computingReset
 zero-answered h =
-    let known : _≡_ {A = ℕ} 40 0 = h .replied (small I2c 64) fresh (zeros 64) 8 (request I2c 8 0x00 []) 128 refl refl refl in
+    let known : _≡_ {A = ℕ} 40 0 = h .replied (small I2c 64) fresh (zeros 64) 8 (request I2c 8 0x00 []) 128 refl 0 0 [] refl refl refl in
     omega arith
 
 zero-read : BootloaderKnown readsZero → ⊥
 unfolding computingReset
 zero-read h =
-    let known : _≡_ {A = ℕ} 40 0 = h .read (small I2c 64) fresh (zeros 64) 8 (request I2c 8 0x00 []) 128 8 128 refl refl refl refl in
+    let known : _≡_ {A = ℕ} 40 0 = h .read (small I2c 64) fresh (zeros 64) 8 (request I2c 8 0x00 []) 128 8 128 refl refl 0 0 [] refl refl refl in
     omega arith
 
 returns : tie.Need-returns
