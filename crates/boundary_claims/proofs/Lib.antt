@@ -2,3 +2,4 @@ pub mod Followed
 pub mod Refused
 pub mod Unreserved
 pub mod Meets
+pub mod Resets

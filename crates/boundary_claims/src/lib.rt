@@ -1,8 +1,14 @@
 // The demands of the C boundary: of a list of calls of `childbus_receive` and `childbus_read` after `childbus_fresh`, each with the state
 // bytes and the flash that the last one left. The functions do nothing.
 ghost use Rattle.boundary_claims.specs.Met.{BoundaryMeetsDemands};
+ghost use Rattle.boundary_claims.specs.Resets.{BoundaryResets};
 
 // For any profile bytes, any flash, any list of such calls, with any addresses, frames and output buffers: demands 1, 2 and 3.
 pub fn boundary_meets_demands()
     ensures { λ _. ⌜ BoundaryMeetsDemands ⌝ }
+{}
+
+// W4: what childbus_reset_running wrote, sent as a general call, makes the board of childbus_receive fresh, whatever its bytes.
+pub fn boundary_resets()
+    ensures { λ _. ⌜ BoundaryResets ⌝ }
 {}

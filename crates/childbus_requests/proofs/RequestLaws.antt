@@ -1,5 +1,5 @@
 -- From what the calls that write a request promise to what their calls of the boundary do, on a bus that there is.
-use mathlib.Core.Path.{_≡_, sym, _∙_}
+use mathlib.Core.Path.{_≡_, _∙_}
 use mathlib.Core.List.{List}
 use Prim.Native.Nat.{ℕ, _≤_}
 use lib.ListN.{length}

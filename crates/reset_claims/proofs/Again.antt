@@ -1,5 +1,5 @@
 -- After the reset the board is fresh, and so answers the version request in the default range.
-use mathlib.Core.Path.{_≡_, refl, sym, ap, subst, _∙_}
+use mathlib.Core.Path.{_≡_, refl, sym, subst}
 use mathlib.Core.Bool.{true, not, _&&_}
 use mathlib.Core.List.{List, [], _∷_}
 use Prim.Native.Nat.{ℕ, _≤_}
@@ -12,16 +12,15 @@ use Rattle.rules.specs.declared.kinds.Address.the-variants.{DefaultRange}
 use Rattle.rules.specs.declared.requests.Request.the-variants.{Plain}
 use Rattle.rules.specs.Profile.{Profile}
 use Rattle.rules.specs.State.{fresh}
-use Rattle.rules.specs.Numbers.{refusal, Unrefused}
+use Rattle.rules.specs.Numbers.{refusal}
 use Rattle.rules.specs.Frames.{addressFits, answersTo, addressed}
 use Rattle.rules.specs.Commands.{tabled, performed}
 use Rattle.rules.specs.Board.{Called, nothing}
 use Rattle.laws.proofs.TestLaws.{&&-true}
 use Rattle.laws.proofs.StateLaws.{refusal-unrefused, unrefused-refusal, fresh-wellFormed}
-use Rattle.roundtrip.specs.Sending.{Sending}
 use Rattle.roundtrip.specs.Exchanges.{Line, Board, Ready, Ok, results}
 use Rattle.roundtrip.proofs.Encodes.{plain-made}
-use Rattle.roundtrip.proofs.Exchange.{Exchanged, exchange}
+use Rattle.roundtrip.proofs.Exchange.{exchange}
 use Rattle.reset_claims.specs.Running.{askedAgain, AnswersAgain}
 use Rattle.reset_claims.proofs.Resets.{received-reset}
 

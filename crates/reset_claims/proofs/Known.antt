@@ -14,15 +14,15 @@ use Rattle.rules.specs.declared.kinds.Verdict.the-variants.{Reset, ResetAddress
 use Rattle.rules.specs.Profile.{Profile}
 use Rattle.rules.specs.State.{State}
 use Rattle.rules.specs.Numbers.{refusal}
-use Rattle.rules.specs.Frames.{headerLength, reply, destination, verdict, commandOf, argumentsOf}
-use Rattle.rules.specs.Responses.{Response, Reply, NoReply, Acted, ok}
+use Rattle.rules.specs.Frames.{headerLength, reply, destination, commandOf, argumentsOf}
+use Rattle.rules.specs.Responses.{Response, Reply, NoReply, ok}
 use Rattle.rules.specs.Commands.{tabled, executed}
-use Rattle.rules.specs.Board.{Called, replied, finishedCall, readAnswered, handled, received, readOut}
+use Rattle.rules.specs.Board.{replied, finishedCall, readAnswered, handled, received, readOut}
 use Rattle.rules.specs.Master.{Decoding, opened, decoded, resultsIn, resultsMissing, fixedPart, versionRule}
 use Rattle.laws.proofs.TestLaws.{by-test}
 use Rattle.laws.proofs.FrameLaws.{Ends, decoded-reply, results-reply}
 use Rattle.laws.proofs.CommandLaws.{executed-cases}
-use Rattle.laws.proofs.BoardLaws.{received-handled, received-refused, withReply-last}
+use Rattle.laws.proofs.BoardLaws.{withReply-last}
 use Rattle.ledger.specs.Calls.{ruled}
 use Rattle.reset_claims.specs.Running.{SaysKnown, BootloaderKnown}
 

@@ -6,14 +6,13 @@ use Prim.Native.Nat.{ℕ}
 use native.Mathlib.Omega.{arith}
 use lib.Dec.{eqb}
 use borrow.Author.Tests.{eqb-true}
-use Rattle.rules.specs.declared.kinds.Bus.{Bus}
 use Rattle.rules.specs.declared.requests.Request.the-variants.{Reset}
 use Rattle.rules.specs.Profile.{frameInRange}
 use Rattle.rules.specs.Frames.{resetFrame}
 use Rattle.rules.specs.Master.{Encoding, unmade, requestBytes, encoded, versionRule, runningReset}
 use Rattle.laws.proofs.TestLaws.{by-test, &&-true}
 use Rattle.roundtrip.proofs.Made.{encoded-made}
-use Rattle.reset_claims.specs.Running.{Asked, Written, EncodersReset, WrittenForRunning, resetBytes}
+use Rattle.reset_claims.specs.Running.{Asked, Written, WrittenForRunning, resetBytes}
 
 -- only 0.0 is neither known nor not known
 only-running : (major minor : ℕ) → eqb (versionRule major minor .number) 14 ≡ false → eqb (versionRule major minor .number) 0 ≡ false

@@ -1,7 +1,4 @@
 -- What the wrong boards of W4 are tried on, and all that a proof by computation opens.
-use mathlib.Core.List.{List, [], _∷_}
-use Prim.Native.Nat.{ℕ}
-use Rattle.rules.specs.declared.kinds.Bus.{Bus}
 use Rattle.rules.specs.declared.kinds.Bus.the-variants.{I2c}
 use Rattle.rules.specs.Master.{requestBytes, argumentWrong, encoded, fixedPart, opened, decoded, versionRule, runningReset}
 use Rattle.wrongboards.proofs.Computing.{computing}
