@@ -94,7 +94,8 @@ module _ (p : Profile) (s : State) (a : ℕ) (f d : List ℕ) where
   handled-known BadSum code-is = says-known (p .bus) _ 4 [] (omega arith) refl (λ e. absurd (omega (arith, e)))
   handled-known Command code-is = executed-known p s (commandOf (p .bus) f) (argumentsOf (p .bus) f) d _ code-is
 
-  handled-last : (v : Verdict) → p .bus ≡ I2c → handled p s a f d v .number ≡ 0 → handled p s a f d v .state .last ≡ handled p s a f d v .reply
+  handled-last : (v : Verdict) → p .bus ≡ I2c → handled p s a f d v .number ≡ 0
+      → handled p s a f d v .state .last ≡ handled p s a f d v .reply
   unfolding handled
   handled-last Reset i e = absurd (omega (arith, e))
   handled-last ResetAddress i e = absurd (omega (arith, e))

@@ -38,7 +38,8 @@ module _ (p : Profile) (s : State) (d : List ℕ) (h : Happened) (longest major 
   abbrev n : ℕ
   n = length (h .before)
 
-  effect-is : callEffect (h .answer) (h .flash) (h .after) ≡ expectedEffect (received (profileOf p) (view s) a (resetBytes q) d n) (h .before)
+  effect-is : callEffect (h .answer) (h .flash) (h .after)
+      ≡ expectedEffect (received (profileOf p) (view s) a (resetBytes q) d n) (h .before)
   effect-is =
       promised .called
       ∙ ap (λ (i : CallInput). expectedEffect (ruledCall p s d n i) (h .before)) (input ∙ ap (Receive a) made)

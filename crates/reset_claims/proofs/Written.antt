@@ -1,17 +1,20 @@
--- The reset is written for version 0.0 alone, and is the encoder's.
+-- The reset is written for version 0.0 alone, always then where it can be, and is the encoder's.
 use mathlib.Core.Path.{_≡_, refl, sym, ap, _∙_}
 use mathlib.Core.Bool.{Bool, true, false, cond, not, _&&_, false≢true}
 use mathlib.Core.List.{[]}
-use Prim.Native.Nat.{ℕ}
+use Prim.Native.Nat.{ℕ, _≤_}
 use native.Mathlib.Omega.{arith}
 use lib.Dec.{eqb}
-use borrow.Author.Tests.{eqb-true}
+use lib.ListN.{length}
+use borrow.Author.Tests.{eqb-true, le-ltb}
 use Rattle.rules.specs.declared.requests.Request.the-variants.{Reset}
 use Rattle.rules.specs.Profile.{frameInRange}
 use Rattle.rules.specs.Frames.{resetFrame}
 use Rattle.rules.specs.Master.{Encoding, unmade, requestBytes, encoded, versionRule, runningReset}
 use Rattle.laws.proofs.TestLaws.{by-test, &&-true}
 use Rattle.roundtrip.proofs.Made.{encoded-made}
+use Rattle.reset_running.specs.Resets.{resetInto}
+use Rattle.reset_running.proofs.ResetLaws.{running}
 use Rattle.reset_claims.specs.Running.{Asked, Written, WrittenForRunning, resetBytes}
 
 -- only 0.0 is neither known nor not known
@@ -52,8 +55,19 @@ module _ (q : Asked) (written : Written q) where
       let made = sym (ap (λ (e : Encoding). e .number) (parts .2)) ∙ written in
       ap (λ (e : Encoding). e .bytes) (parts .2) ∙ encoded-made (q .bus) (q .longest) Reset 0 [] (q .room) made .bytes-are
 
+-- for 0.0, with an M in range and room for it
+always-written : (q : Asked) → frameInRange (q .longest) ≡ true → q .major ≡ 0 → q .minor ≡ 0 → length (resetFrame (q .bus)) ≤ q .room
+    → Written q
+unfolding versionRule resetInto
+always-written q range major-is minor-is room =
+    rw (running (q .bus) (q .longest) (q .major) (q .minor) (q .room) range (rw (major-is, minor-is)), le-ltb _ _ room)
+
 pub written-for-running : WrittenForRunning
-written-for-running q written =
-    let p = parts q written in
-    let zeros = only-running (q .major) (q .minor) (p .0) (p .1) in
-    record { major-is = zeros .0; minor-is = zeros .1; bytes-are = ap (λ (e : Encoding). e .bytes) (p .2) }
+written-for-running = record {
+  only =
+      λ q written.
+      let p = parts q written in
+      let zeros = only-running (q .major) (q .minor) (p .0) (p .1) in
+      record { major-is = zeros .0; minor-is = zeros .1; bytes-are = ap (λ (e : Encoding). e .bytes) (p .2) };
+  always = always-written;
+}

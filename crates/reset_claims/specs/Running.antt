@@ -2,15 +2,15 @@
 use mathlib.Core.Path.{_≡_}
 use mathlib.Core.Bool.{true}
 use mathlib.Core.List.{List, [], _∷_}
-use Prim.Native.Nat.{ℕ, _<_}
+use Prim.Native.Nat.{ℕ, _≤_, _<_}
 use lib.ListN.{length}
 use Rattle.rules.specs.declared.kinds.Bus.{Bus}
 use Rattle.rules.specs.declared.kinds.Address.the-variants.{DefaultRange}
 use Rattle.rules.specs.declared.requests.Request.the-variants.{Plain, Reset}
-use Rattle.rules.specs.Profile.{Profile}
+use Rattle.rules.specs.Profile.{Profile, frameInRange}
 use Rattle.rules.specs.State.{State}
 use Rattle.rules.specs.Numbers.{refusal}
-use Rattle.rules.specs.Frames.{addressed, destination, commandOf}
+use Rattle.rules.specs.Frames.{resetFrame, addressed, destination, commandOf}
 use Rattle.rules.specs.Responses.{ok}
 use Rattle.rules.specs.Board.{Called, received}
 use Rattle.rules.specs.Master.{Decoding, decoded, resultsIn, encoded, versionRule, runningReset}
@@ -35,14 +35,17 @@ Written q = runningReset (q .bus) (q .longest) (q .major) (q .minor) (q .room) .
 abbrev pub resetBytes : Asked → List ℕ
 resetBytes q = runningReset (q .bus) (q .longest) (q .major) (q .minor) (q .room) .bytes
 
--- for no version but 0.0, and then it is the encoder's reset
+-- the version is 0.0, and the bytes are the encoder's reset
 pub record EncodersReset (q : Asked) : Type 0 where
   pub major-is : q .major ≡ 0
   pub minor-is : q .minor ≡ 0
   pub bytes-are : resetBytes q ≡ encoded (q .bus) (q .longest) Reset 0 [] (q .room) .bytes
 
-abbrev pub WrittenForRunning : Type 0
-WrittenForRunning = (q : Asked) → Written q → EncodersReset q
+-- written for 0.0 alone; and always then, with an M in range and room for it
+pub record WrittenForRunning : Type 0 where
+  pub only : (q : Asked) → Written q → EncodersReset q
+  pub always :
+      (q : Asked) → frameInRange (q .longest) ≡ true → q .major ≡ 0 → q .minor ≡ 0 → length (resetFrame (q .bus)) ≤ q .room → Written q
 
 -- over any board: sent as a general call, on I²C to address 0, it resets every board of that bus that answers none of 2 to 5, running or
 -- not: no reply, the fresh state, the flash as before

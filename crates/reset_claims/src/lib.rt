@@ -4,7 +4,7 @@ ghost use Rattle.reset_claims.specs.Running.{WrittenForRunning, ResetsBo
 ghost use Rattle.reset_claims.specs.OfCode.{CodeResets};
 ghost use Rattle.reset_claims.specs.WrongResets.{ignoresReset, resetsAddress, erasesFlash, answersZero, readsZero, EveryReadKnown};
 
-// The reset is written for version 0.0 alone, and is the encoder's.
+// The reset is written for version 0.0 alone, always then where M is in range and there is room, and is the encoder's.
 pub fn written_for_running()
     ensures { λ _. ⌜ WrittenForRunning ⌝ }
 {}
