@@ -19,12 +19,9 @@ use rules::requests::Decoded;
 use rules::requests::Encoded;
 use rules::requests::Request;
 
-// The number of version 0.0, an application's. Document 01 has none for it.
-pub(crate) const APPLICATION_RUNNING: usize = 40;
-
-// A number with its meaning, and what to do about it. Piece n is number n's.
+// A number with its meaning, and what to do about it. Piece n is number n's, up to 14.
 pub fn tell_number(n: usize) {
-    if n == APPLICATION_RUNNING {
+    if n == 40 {
         say(
             b"  number 40, the application runs; the board is not faulty
     do: reset-running, or reset, brings the bootloader back

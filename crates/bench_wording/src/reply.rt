@@ -5,6 +5,7 @@ use bench_output::say;
 use bench_output::say_bytes;
 use bench_output::tell;
 use bench_output::tell_all;
+use numbers::version_number;
 use rules::kinds::Bus;
 use rules::requests::Decoded;
 use rules::requests::Version;
@@ -56,13 +57,9 @@ fn tell_known(v: Version) {
             b", which counts as %.%\n",
             [as_usize(major), as_usize(minor), 0, 0, 0],
         ),
-        Version::ApplicationRunning => {
+        _ => {
             say(b"\n");
-            meaning::tell_number(meaning::APPLICATION_RUNNING);
-        }
-        Version::Unknown => {
-            say(b"\n");
-            meaning::tell_number(14);
+            meaning::tell_number(version_number(v) as usize);
         }
     }
 }
