@@ -273,8 +273,8 @@ uint32_t childbus_two_reads(uint32_t code, uint32_t asked, const uint8_t *first,
  *   major, minor               as the board answered to CHILDBUS_CMD_VERSION, with status OK
  *   known_major, known_minor   the version it counts as; 0 and 0 with answers 14 and 40
  *
- * Answers 0; 40 for 0.0; 14 for any other. Library versions before 0.4.0 answered 14 for 0.0 too: a caller that takes
- * every number but 0 for "not known" needs no change; one that looks for 14 alone has to look for 40 too.
+ * Answers 0; 40 for 0.0; 14 for any other. Libraries without childbus_reset_running answered 14 for 0.0 too: a caller
+ * that takes every number but 0 for "not known" needs no change; one that looks for 14 alone has to look for 40 too.
  */
 uint32_t childbus_version(uint32_t major, uint32_t minor, uint32_t *known_major, uint32_t *known_minor);
 
