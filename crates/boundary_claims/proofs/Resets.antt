@@ -18,9 +18,9 @@ use Rattle.state_bytes.specs.StateBytes.{stateAt}
 use Rattle.childbus_board.specs.BoardBytes.{ReceivedLeft, receivedBy, receivedLeft}
 use Rattle.childbus_board.proofs.KeptLaws.{kept-says}
 use Rattle.childbus_requests.specs.RequestBytes.{EncodedLeft, encodedBy, resetLeft}
-use Rattle.reset_claims.specs.Running.{Asked, Written, resetBytes}
+use Rattle.reset_claims.specs.Running.{ResetInput, Written, resetBytes}
 use Rattle.reset_claims.proofs.Resets.{unrefused, received-reset}
-use Rattle.boundary_claims.specs.Resets.{BoardReset, BoundaryResets}
+use Rattle.boundary_claims.specs.Resets.{BoardFresh, BoundaryResets}
 
 -- on a bus that there is
 there : (over : Bool) (e : Encoding) → cond over (unmade 2) e .number ≡ 0 → cond over (unmade 2) e ≡ e
@@ -28,7 +28,7 @@ there true e zero = absurd (omega (arith, zero))
 there false e zero = refl
 
 module _ (bus longest major minor : ℕ) (room : List ℕ) (zero : resetLeft bus longest major minor room .number ≡ 0) where
-  abbrev q : Asked
+  abbrev q : ResetInput
   q = record { bus = busOf bus; longest = longest; major = major; minor = minor; room = length room }
 
   left-is : resetLeft bus longest major minor room ≡ encodedBy (runningReset (busOf bus) longest major minor (length room)) room
@@ -59,8 +59,8 @@ module _ (bus longest major minor : ℕ) (room : List ℕ) (zero : resetLeft bus
     unfolding receivedLeft
     received-is = ap (λ (c : Called). receivedBy c state out) call-is
 
-    board-reset : BoardReset flash out (receivedLeft profile state a (resetBytes q) flash out)
-    board-reset = record {
+    board-fresh : BoardFresh flash out (receivedLeft profile state a (resetBytes q) flash out)
+    board-fresh = record {
       number-is = ap (λ (l : ReceivedLeft). l .number) received-is;
       made-is = ap (λ (l : ReceivedLeft). l .made) received-is;
       state-is = kept-says profile state a (resetBytes q) flash out few ∙ ap (λ (c : Called). c .state) call-is;
@@ -72,6 +72,6 @@ pub boundary-resets : BoundaryResets
 boundary-resets bus longest major minor room profile state flash out a zero same-bus general =
     subst
     (λ (f : List ℕ).
-    receivedLeft profile state a f flash out .number < 2 → BoardReset flash out (receivedLeft profile state a f flash out))
+    receivedLeft profile state a f flash out .number < 2 → BoardFresh flash out (receivedLeft profile state a f flash out))
     (sym (request-is bus longest major minor room zero))
-    (board-reset bus longest major minor room zero profile state flash out a same-bus general)
+    (board-fresh bus longest major minor room zero profile state flash out a same-bus general)

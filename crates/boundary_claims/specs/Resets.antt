@@ -12,7 +12,7 @@ use Rattle.childbus_board.specs.BoardBytes.{ReceivedLeft, receivedLeft}
 use Rattle.childbus_requests.specs.RequestBytes.{resetLeft}
 
 -- no reply; the state bytes say the fresh state; flash and output are as before
-pub record BoardReset (flash out : List ℕ) (l : ReceivedLeft) : Type 0 where
+pub record BoardFresh (flash out : List ℕ) (l : ReceivedLeft) : Type 0 where
   pub number-is : l .number ≡ 1
   pub made-is : l .made ≡ 0
   pub state-is : view (stateAt (l .state)) ≡ fresh
@@ -26,4 +26,4 @@ BoundaryResets =
     → profileAt profile .bus ≡ busOf bus → Beside (busOf bus) a 0
     → let request : List ℕ = take (resetLeft bus longest major minor room .made) (resetLeft bus longest major minor room .out) in
     receivedLeft profile state a request flash out .number < 2
-    → BoardReset flash out (receivedLeft profile state a request flash out)
+    → BoardFresh flash out (receivedLeft profile state a request flash out)

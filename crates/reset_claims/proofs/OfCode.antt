@@ -17,15 +17,15 @@ use Rattle.state.specs.View.{view}
 use Rattle.profile.specs.declared.Profile.{Profile}
 use Rattle.profile.specs.View.{profileOf}
 use Rattle.refinement.specs.Happened.{CallInput, Receive, Happened, Promised, ruledCall}
-use Rattle.reset_claims.specs.Running.{Asked, Written, resetBytes}
-use Rattle.reset_claims.specs.OfCode.{BoardReset, CodeResets}
+use Rattle.reset_claims.specs.Running.{ResetInput, Written, resetBytes}
+use Rattle.reset_claims.specs.OfCode.{BoardFresh, CodeResets}
 use Rattle.reset_claims.proofs.Resets.{unrefused, received-reset}
 
 module _ (p : Profile) (s : State) (d : List ℕ) (h : Happened) (longest major minor a : ℕ) (answer : RunningReset) (before after : List ℕ)
     (e : Encodes (resetNumber answer) (resetLength answer) (runningReset (p .bus) longest major minor (length before)) before after)
     (zero : resetNumber answer ≡ 0) (general : Beside (p .bus) a 0) (input : h .input ≡ Receive a (take (resetLength answer) after))
     (promised : Promised p s d h) (few : number (h .answer .outcome) < 2) where
-  abbrev q : Asked
+  abbrev q : ResetInput
   q = record { bus = p .bus; longest = longest; major = major; minor = minor; room = length before }
 
   written : Written q
@@ -54,8 +54,8 @@ module _ (p : Profile) (s : State) (d : List ℕ) (h : Happened) (longest major 
       (received-reset q (profileOf p) (view s) d a n written refl general
       (unrefused (profileOf p) (view s) a (resetBytes q) d n number-few))
 
-  board-reset : BoardReset d h
-  board-reset = record {
+  board-fresh : BoardFresh d h
+  board-fresh = record {
     number-is = ap (λ (c : CallEffect). c .number) reset-is;
     state-is = ap (λ (c : CallEffect). c .state) reset-is;
     flash-is = ap (λ (c : CallEffect). c .flash) reset-is;
@@ -64,4 +64,4 @@ module _ (p : Profile) (s : State) (d : List ℕ) (h : Happened) (longest major 
 
 pub code-resets : CodeResets
 code-resets p s d h longest major minor a answer before after e zero general input promised few =
-    board-reset p s d h longest major minor a answer before after e zero general input promised few
+    board-fresh p s d h longest major minor a answer before after e zero general input promised few

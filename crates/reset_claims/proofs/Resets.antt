@@ -17,7 +17,7 @@ use Rattle.laws.proofs.BoardLaws.{received-handled, received-refused, refusal-l
 use Rattle.ledger.specs.Calls.{reaction, ruled}
 use Rattle.roundtrip.specs.Sending.{Beside}
 use Rattle.roundtrip.proofs.Requests.{verdict-reset}
-use Rattle.reset_claims.specs.Running.{Asked, Written, resetBytes, ResetsBoards}
+use Rattle.reset_claims.specs.Running.{ResetInput, Written, resetBytes, ResetsBoards}
 use Rattle.reset_claims.proofs.Written.{bytes-are}
 
 -- a number below 2: none of 2 to 5 applies
@@ -29,7 +29,7 @@ unrefused p s a f d n few =
     let number-is = ap (λ (c : Called). c .number) (received-refused p s d a f n (eqb-false _ _ e)) in
     absurd (omega (arith, few, number-is, refusal-least p s (length d) n e)))
 
-module _ (q : Asked) (p : Profile) (s : State) (d : List ℕ) (a n : ℕ) (written : Written q) (same-bus : p .bus ≡ q .bus)
+module _ (q : ResetInput) (p : Profile) (s : State) (d : List ℕ) (a n : ℕ) (written : Written q) (same-bus : p .bus ≡ q .bus)
     (general : Beside (q .bus) a 0) (none : refusal p s (length d) n ≡ 0) where
   pub received-reset : received p s a (resetBytes q) d n ≡ nothing fresh d
   unfolding handled

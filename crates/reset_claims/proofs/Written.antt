@@ -15,7 +15,7 @@ use Rattle.laws.proofs.TestLaws.{by-test, &&-true}
 use Rattle.roundtrip.proofs.Made.{encoded-made}
 use Rattle.reset_running.specs.Resets.{resetInto}
 use Rattle.reset_running.proofs.ResetLaws.{running}
-use Rattle.reset_claims.specs.Running.{Asked, Written, WrittenForRunning, resetBytes}
+use Rattle.reset_claims.specs.Running.{ResetInput, Written, WrittenForRunning, resetBytes}
 
 -- only 0.0 is neither known nor not known
 only-running : (major minor : ℕ) → eqb (versionRule major minor .number) 14 ≡ false → eqb (versionRule major minor .number) 0 ≡ false
@@ -39,7 +39,7 @@ passed true true known e z = absurd (omega arith)
 passed true false true e z = absurd (omega arith)
 passed true false false e z = (refl, refl, refl)
 
-module _ (q : Asked) (written : Written q) where
+module _ (q : ResetInput) (written : Written q) where
   parts : (eqb (versionRule (q .major) (q .minor) .number) 14 ≡ false)
       × (eqb (versionRule (q .major) (q .minor) .number) 0 ≡ false)
       × (runningReset (q .bus) (q .longest) (q .major) (q .minor) (q .room) ≡ encoded (q .bus) (q .longest) Reset 0 [] (q .room))
@@ -56,7 +56,7 @@ module _ (q : Asked) (written : Written q) where
       ap (λ (e : Encoding). e .bytes) (parts .2) ∙ encoded-made (q .bus) (q .longest) Reset 0 [] (q .room) made .bytes-are
 
 -- for 0.0, with an M in range and room for it
-always-written : (q : Asked) → frameInRange (q .longest) ≡ true → q .major ≡ 0 → q .minor ≡ 0 → length (resetFrame (q .bus)) ≤ q .room
+always-written : (q : ResetInput) → frameInRange (q .longest) ≡ true → q .major ≡ 0 → q .minor ≡ 0 → length (resetFrame (q .bus)) ≤ q .room
     → Written q
 unfolding versionRule resetInto
 always-written q range major-is minor-is room =

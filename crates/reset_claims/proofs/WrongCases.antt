@@ -2,12 +2,12 @@
 use Rattle.rules.specs.declared.kinds.Bus.the-variants.{I2c}
 use Rattle.rules.specs.Master.{requestBytes, argumentWrong, encoded, fixedPart, opened, decoded, versionRule, runningReset}
 use Rattle.wrongboards.proofs.Computing.{computing}
-use Rattle.reset_claims.specs.Running.{Asked}
+use Rattle.reset_claims.specs.Running.{ResetInput}
 
 unfoldable pub computingReset : Unit {0}
 unfolding computing requestBytes argumentWrong encoded fixedPart opened decoded versionRule runningReset
 computingReset = tt
 
 -- version 0.0 on I²C
-abbrev pub zeroAsked : Asked
-zeroAsked = record { bus = I2c; longest = 128; major = 0; minor = 0; room = 1 }
+abbrev pub zeroInput : ResetInput
+zeroInput = record { bus = I2c; longest = 128; major = 0; minor = 0; room = 1 }

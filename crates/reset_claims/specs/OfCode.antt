@@ -15,7 +15,7 @@ use Rattle.profile.specs.declared.Profile.{Profile}
 use Rattle.refinement.specs.Happened.{Receive, Happened, Promised}
 
 -- one call of the board after which it is fresh; flash and buffer are as before
-pub record BoardReset (d : List ℕ) (h : Happened) : Type 0 where
+pub record BoardFresh (d : List ℕ) (h : Happened) : Type 0 where
   pub number-is : number (h .answer .outcome) ≡ 1
   pub state-is : view (h .answer .state) ≡ fresh
   pub flash-is : h .flash ≡ d
@@ -27,4 +27,4 @@ CodeResets =
     (p : Profile) (s : State) (d : List ℕ) (h : Happened) (longest major minor a : ℕ) (answer : RunningReset) (before after : List ℕ)
     → Encodes (resetNumber answer) (resetLength answer) (runningReset (p .bus) longest major minor (length before)) before after
     → resetNumber answer ≡ 0 → Beside (p .bus) a 0 → h .input ≡ Receive a (take (resetLength answer) after)
-    → Promised p s d h → number (h .answer .outcome) < 2 → BoardReset d h
+    → Promised p s d h → number (h .answer .outcome) < 2 → BoardFresh d h

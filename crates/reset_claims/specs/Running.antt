@@ -19,8 +19,8 @@ use Rattle.roundtrip.specs.Sending.{Sending, Beside}
 use Rattle.roundtrip.specs.Exchanges as exchange
 use Rattle.roundtrip.specs.Exchanges.{Ok, results}
 
--- a version that a board answered, and where the master writes its reset
-pub record Asked : Type 0 where
+-- what the reset call is given: bus, M, the version that a board answered, and how long the lent output is
+pub record ResetInput : Type 0 where
   pub bus : Bus
   pub longest : ℕ
   pub major : ℕ
@@ -28,30 +28,30 @@ pub record Asked : Type 0 where
   pub room : ℕ
 
 -- the reset is written
-abbrev pub Written : Asked → Type 0
+abbrev pub Written : ResetInput → Type 0
 Written q = runningReset (q .bus) (q .longest) (q .major) (q .minor) (q .room) .number ≡ 0
 
 -- its bytes
-abbrev pub resetBytes : Asked → List ℕ
+abbrev pub resetBytes : ResetInput → List ℕ
 resetBytes q = runningReset (q .bus) (q .longest) (q .major) (q .minor) (q .room) .bytes
 
 -- the version is 0.0, and the bytes are the encoder's reset
-pub record EncodersReset (q : Asked) : Type 0 where
+pub record EncodersReset (q : ResetInput) : Type 0 where
   pub major-is : q .major ≡ 0
   pub minor-is : q .minor ≡ 0
   pub bytes-are : resetBytes q ≡ encoded (q .bus) (q .longest) Reset 0 [] (q .room) .bytes
 
 -- written for 0.0 alone; and always then, with an M in range and room for it
 pub record WrittenForRunning : Type 0 where
-  pub only : (q : Asked) → Written q → EncodersReset q
+  pub only : (q : ResetInput) → Written q → EncodersReset q
   pub always :
-      (q : Asked) → frameInRange (q .longest) ≡ true → q .major ≡ 0 → q .minor ≡ 0 → length (resetFrame (q .bus)) ≤ q .room → Written q
+      (q : ResetInput) → frameInRange (q .longest) ≡ true → q .major ≡ 0 → q .minor ≡ 0 → length (resetFrame (q .bus)) ≤ q .room → Written q
 
 -- over any board: sent as a general call, on I²C to address 0, it resets every board of that bus that answers none of 2 to 5, running or
 -- not: no reply, the fresh state, the flash as before
 abbrev pub ResetsBoards : Board → Type 0
 ResetsBoards B =
-    (q : Asked) (p : Profile) (s : B .Kept) (d : List ℕ) (a n : ℕ) → Written q → p .bus ≡ q .bus → Beside (q .bus) a 0
+    (q : ResetInput) (p : Profile) (s : B .Kept) (d : List ℕ) (a n : ℕ) → Written q → p .bus ≡ q .bus → Beside (q .bus) a 0
     → B .call p s d (Frame a (resetBytes q) n) .number < 2
     → B .call p s d (Frame a (resetBytes q) n) ≡ record { number = 1; reply = []; state = B .fresh; flash = d }
 
@@ -87,7 +87,7 @@ askedAgain p c to n =
 -- a board that was reset answers the next version request, at every address of the default range, and the master reads 2.2
 abbrev pub AnswersAgain : Type 0
 AnswersAgain =
-    (q : Asked) (p : Profile) (s : State) (d : List ℕ) (a n to : ℕ) → Written q → p .bus ≡ q .bus → Beside (q .bus) a 0
+    (q : ResetInput) (p : Profile) (s : State) (d : List ℕ) (a n to : ℕ) → Written q → p .bus ≡ q .bus → Beside (q .bus) a 0
     → refusal p s (length d) n ≡ 0 → addressed (p .bus) DefaultRange to ≡ true
     → let x : Sending = askedAgain p (received p s a (resetBytes q) d n) to n in
     Ok x × (results x ≡ 2 ∷ 2 ∷ [])

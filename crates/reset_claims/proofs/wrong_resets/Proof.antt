@@ -11,14 +11,14 @@ use Rattle.ledger.specs.Calls.{Reaction}
 use Rattle.wrongboards.proofs.Cases.{small, zeros}
 use Rattle.reset_claims.specs.Running.{ResetsBoards}
 use Rattle.reset_claims.specs.WrongResets.{ignoresReset, resetsAddress, erasesFlash}
-use Rattle.reset_claims.proofs.WrongCases.{computingReset, zeroAsked}
+use Rattle.reset_claims.proofs.WrongCases.{computingReset, zeroInput}
 use Rattle.reset_claims.proofs.wrong_resets.Statement.{statement}
 use Rattle.reset_claims.proofs.wrong_resets.Tie as tie
 
 still-running : ResetsBoards ignoresReset → ⊥
 unfolding computingReset
 still-running h =
-    let after = h zeroAsked (small I2c 64) (withRunning fresh true) (zeros 64) 0 128 refl refl refl (omega arith) in
+    let after = h zeroInput (small I2c 64) (withRunning fresh true) (zeros 64) 0 128 refl refl refl (omega arith) in
     let stopped : _≡_ {A = Bool} true false = ap (λ (r : Reaction State). r .state .running) after in
     false≢true (sym stopped)
 
@@ -26,14 +26,14 @@ upload-kept : ResetsBoards resetsAddress → ⊥
 unfolding computingReset
 upload-kept h =
     let begun : State = withUpload fresh (record { next = 64; waiting = []; count = 1 }) in
-    let after = h zeroAsked (small I2c 64) begun (zeros 64) 0 128 refl refl refl (omega arith) in
+    let after = h zeroInput (small I2c 64) begun (zeros 64) 0 128 refl refl refl (omega arith) in
     let next : _≡_ {A = ℕ} 64 0 = ap (λ (r : Reaction State). r .state .upload .next) after in
     omega arith
 
 flash-lost : ResetsBoards erasesFlash → ⊥
 unfolding computingReset
 flash-lost h =
-    let after = h zeroAsked (small I2c 64) fresh (zeros 64) 0 128 refl refl refl (omega arith) in
+    let after = h zeroInput (small I2c 64) fresh (zeros 64) 0 128 refl refl refl (omega arith) in
     let bytes : _≡_ {A = ℕ} 0 64 = ap (λ (r : Reaction State). length (r .flash)) after in
     omega arith
 
