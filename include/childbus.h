@@ -6,12 +6,14 @@
  *
  * Buffers
  *   A buffer is a pointer and a length in bytes. Pointers are not NULL, not even with length 0. The buffers of one call
- *   and the places of its single results do not overlap. Only buffers without const are written. Profile and state
- *   have a layout of their own, below; their numbers of four bytes are little-endian. Alignment does not matter.
+ *   and the places of its single results do not overlap. Only buffers without const are written. Profile, state and
+ *   tally have a layout of their own, below; their numbers are little-endian. Alignment does not matter.
  *
  * Answers
- *   Every function answers one of the numbers below, except childbus_two_reads. Refused means a number of 2 or above:
- *   then every buffer is as it was before the call, and single results are 0.
+ *   Every function answers one of the numbers below, except childbus_two_reads. With a number of 2 or above every buffer
+ *   is as it was before the call (the tally aside, which counts 15 to 18), and single results are 0. 2 to 14 say that
+ *   the call was refused. 15 to 18 are everyday silence on a shared line: the board has nothing to send, and nothing is
+ *   wrong with the firmware.
  *
  * Not here: time (t3.5, the 80 ms, clock stretching), pins, the application. The caller finds the ends of frames.
  */
@@ -46,6 +48,10 @@ extern "C" {
 #define CHILDBUS_REPLY_STATUS_UNKNOWN  12u  /* status above 5 */
 #define CHILDBUS_RESULTS_MISSING       13u  /* OK without all of the command's fixed part */
 #define CHILDBUS_VERSION_UNKNOWN       14u  /* version not known */
+#define CHILDBUS_FRAME_SHORT           15u  /* RS485: frame shorter than 4, nothing to send */
+#define CHILDBUS_FRAME_LONG            16u  /* RS485: frame longer than M, nothing to send */
+#define CHILDBUS_FRAME_CRC_WRONG       17u  /* RS485: frame with a wrong CRC, nothing to send */
+#define CHILDBUS_FRAME_FOREIGN         18u  /* RS485: whole frame to another address, nothing to send */
 #define CHILDBUS_APPLICATION_RUNNING   40u  /* version 0.0: an application answers, not the bootloader */
 
 /* Statuses: the byte with which a reply begins (on RS485 after the address). This board has results with OK only. */
@@ -131,8 +137,8 @@ extern "C" {
  *
  * Number 4 is given for a buffer shorter than CHILDBUS_STATE_BYTES, an address kind or a running byte above 1,
  * next over S, w over next mod 64, count over next - w, a last reply over M bytes, and any on RS485. Bytes past 340
- * are never touched. A refused call leaves every byte as it was. After 0 and 1 the bytes that mean nothing (3, the own
- * address with kind 0, waiting bytes beyond w, reply bytes beyond its length) may hold anything.
+ * are never touched. A call answered 2 or above leaves every byte as it was. After 0 and 1 the bytes that mean nothing
+ * (3, the own address with kind 0, waiting bytes beyond w, reply bytes beyond its length) may hold anything.
  */
 #define CHILDBUS_STATE_BYTES 340u
 #define CHILDBUS_STATE_ADDRESS_KIND   0
@@ -168,7 +174,12 @@ uint32_t childbus_fresh(uint8_t *state, size_t state_len);
  *   made                  the reply's length with 0, else 0
  *
  * Answers 0: on RS485 send the first *made bytes of out; on I2C the master reads them (childbus_read). 1: send nothing.
- * 2, 3, 4, 5: refused, tested in this order.
+ * 2, 3, 4, 5: refused, tested in this order. 15, 16, 17, 18: send nothing, and why; every byte is as it was. Only on
+ * RS485, while not running, tested in this order; 0 is never a foreign address, so a general call of right length and
+ * CRC answers 1.
+ *
+ * What an old caller must change: libraries without childbus_receive_tally answered 1 for these four. A caller that takes
+ * every number of 2 or above for a fault of the firmware has to take 15 to 18 for silence, as 1. childbus_silent tells.
  *
  * After each call look at state[CHILDBUS_STATE_RUNNING]: start answers 1, like many other frames, and this byte alone
  * tells it apart. When it has become 1, start the application; bytes that waited are lost by then. While it is 1 only
@@ -182,6 +193,46 @@ uint32_t childbus_fresh(uint8_t *state, size_t state_len);
 uint32_t childbus_receive(const uint8_t *profile, size_t profile_len, uint8_t *state, size_t state_len,
                           uint32_t address, const uint8_t *frame, size_t frame_len, uint8_t *flash, size_t flash_len,
                           uint8_t *out, size_t out_len, size_t *made);
+
+/* Nothing to send and nothing wrong with the call: 1, and on RS485 15 to 18. */
+static inline int childbus_silent(uint32_t number)
+{
+    return number == CHILDBUS_NOTHING || (number >= CHILDBUS_FRAME_SHORT && number <= CHILDBUS_FRAME_FOREIGN);
+}
+
+/*
+ * The tally: how many received frames a board dropped, by kind, and how many it answered. Five counters of two bytes,
+ * little-endian, each of which stops at 65535. The caller keeps it beside the state and clears it (ten bytes of 0) when
+ * it likes; any ten bytes are a tally. No reset clears it.
+ *
+ *    0..1   frames answered 15, too short
+ *    2..3   frames answered 16, too long
+ *    4..5   frames answered 17, wrong CRC
+ *    6..7   frames answered 18, foreign address
+ *    8..9   frames answered 0; the only one that rises on I2C
+ */
+#define CHILDBUS_TALLY_BYTES 10u
+#define CHILDBUS_TALLY_SHORT    0
+#define CHILDBUS_TALLY_LONG     2
+#define CHILDBUS_TALLY_CRC      4
+#define CHILDBUS_TALLY_FOREIGN  6
+#define CHILDBUS_TALLY_ANSWERED 8
+
+/*
+ * The board: one received frame, counted. All but the tally is exactly childbus_receive's: number, state, flash, out and
+ * *made, whatever the tally is.
+ *
+ *   profile to out, made  as for childbus_receive
+ *   tally, tally_len      the tally, changed in place: the counter of the answered number rises by one, unless it stands
+ *                         at 65535; no counter rises with 1 to 5. A buffer shorter than CHILDBUS_TALLY_BYTES is no
+ *                         tally: nothing is counted and no byte of it changes. Bytes past 10 are never touched
+ *
+ * I2C reads are not counted: they are no received frames.
+ */
+uint32_t childbus_receive_tally(const uint8_t *profile, size_t profile_len, uint8_t *state, size_t state_len,
+                                uint32_t address, const uint8_t *frame, size_t frame_len, uint8_t *flash,
+                                size_t flash_len, uint8_t *out, size_t out_len, uint8_t *tally, size_t tally_len,
+                                size_t *made);
 
 /*
  * The board: an I2C read at an address. It hands out the last reply and keeps it as it is.
