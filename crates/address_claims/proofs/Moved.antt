@@ -28,7 +28,7 @@ use Rattle.laws.proofs.CommandLaws.{length-reply, setAddress-cases, executed-ca
 use Rattle.laws.proofs.VerdictLaws.{verdict-cases}
 use Rattle.laws.proofs.AddressLaws.{taken-addressed}
 use Rattle.laws.proofs.BoardLaws.{withReply-address, withReply-running, withReply-last, received-handled, received-refused, refusal-least}
-use Rattle.laws.proofs.BoardLaws.{received-formed-call, read-again}
+use Rattle.laws.proofs.BoardLaws.{ignored-unanswered, received-formed-call, read-again}
 use Rattle.ledger.specs.Ledger.{answeredOk}
 use Rattle.demands.specs.Acceptance.{newAddress}
 use Rattle.demands.proofs.Answered.{handled-command, address-set}
@@ -129,7 +129,7 @@ module _ (p : Profile) (s : State) (a : ℕ) (f d : List ℕ) (i : p .bus ≡ I2
   unfolding handled
   framed-ends stopped Reset = silent _ (omega arith)
   framed-ends stopped ResetAddress = silent _ (omega arith)
-  framed-ends stopped (Ignored reason) = silent _ (omega arith)
+  framed-ends stopped (Ignored reason) = silent _ (ignored-unanswered reason)
   framed-ends stopped BadTransfer = other-status invalidTransfer (omega arith)
   framed-ends stopped BadSum = other-status invalidCrc (omega arith)
   framed-ends stopped Command = executed-ends stopped

@@ -2,7 +2,7 @@
 use mathlib.Core.Path.{_≡_}
 use mathlib.Core.Bool.{true}
 use mathlib.Core.List.{List}
-use Prim.Native.Nat.{ℕ}
+use Prim.Native.Nat.{ℕ, _≤_}
 use lib.ListN.{length}
 use Rattle.rules.specs.declared.kinds.Verdict.{Verdict}
 use Rattle.rules.specs.Profile.{Profile}
@@ -10,7 +10,7 @@ use Rattle.rules.specs.State.{State, Upload}
 use Rattle.rules.specs.Numbers.{refusal}
 use Rattle.rules.specs.Frames.{ignored}
 use Rattle.rules.specs.Commands.{finished}
-use Rattle.rules.specs.Board.{nothing, handled}
+use Rattle.rules.specs.Board.{refused, handled}
 use Rattle.lost_bytes.specs.Lost.{lostBytes}
 
 -- the same upload before and after, over any flash
@@ -23,7 +23,8 @@ FinalizeLosesNothing =
     (p : Profile) (s : State) (d : List ℕ) (n : ℕ) → refusal p s (length d) n ≡ 0
     → lostBytes (p .offset) (s .upload) (finished p s d .state .upload) (finished p s d .flash) ≡ 0
 
--- any frame whose verdict is ignored
+-- any frame whose verdict is ignored: 1, or the number that says why
 abbrev pub IgnoredUntouched : Type 0
 IgnoredUntouched =
-    (p : Profile) (s : State) (a : ℕ) (f d : List ℕ) (v : Verdict) → ignored v ≡ true → handled p s a f d v ≡ nothing s d
+    (p : Profile) (s : State) (a : ℕ) (f d : List ℕ) (v : Verdict) → ignored v ≡ true
+    → (1 ≤ handled p s a f d v .number) × (handled p s a f d v ≡ refused (handled p s a f d v .number) s d)

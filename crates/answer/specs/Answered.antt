@@ -6,7 +6,11 @@ use mathlib.Core.List.{List}
 use Prim.Native.Nat.{ℕ, _+_, _≤_}
 use lib.ListN.{length}
 use Rattle.rules.specs.declared.kinds.Bus.{Bus}
-use Rattle.rules.specs.declared.kinds.Outcome.the-variants.{Nothing}
+use Rattle.rules.specs.declared.kinds.Bus.the-variants.{I2c, Rs485}
+use Rattle.rules.specs.declared.kinds.Outcome.{Outcome}
+use Rattle.rules.specs.declared.kinds.Outcome.the-variants.{Nothing, FrameTooShort, FrameTooLong, FrameSumWrong, FrameForeign}
+use Rattle.rules.specs.declared.kinds.Reason.{Reason}
+use Rattle.rules.specs.declared.kinds.Reason.the-variants.{Running, Short, Long, WrongSum, Foreign, OtherGeneral}
 use Rattle.rules.specs.declared.kinds.Verdict.{Verdict}
 use Rattle.rules.specs.State as rules
 use Rattle.rules.specs.Numbers.{number, made, laid}
@@ -21,6 +25,16 @@ use Rattle.answer.specs.declared.Answer.{Answer}
 -- nothing to send: number 1 and the very state, bytes that mean nothing too
 abbrev pub silent : State → Answer
 silent s = record { outcome = Nothing; state = s }
+
+-- W3: an ignored frame's answer says why it gets no reply, where that has a number of its own
+abbrev pub ignoredOutcome : Reason → Outcome
+ignoredOutcome Running = Nothing
+ignoredOutcome Short = FrameTooShort
+ignoredOutcome Long = FrameTooLong
+ignoredOutcome WrongSum = FrameSumWrong
+ignoredOutcome (Foreign Rs485) = FrameForeign
+ignoredOutcome (Foreign I2c) = Nothing
+ignoredOutcome OtherGeneral = Nothing
 
 pub record CallEffect : Type 0 where
   pub number : ℕ

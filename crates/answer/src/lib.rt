@@ -4,6 +4,7 @@ use response::Done;
 use response::Response;
 use rules::kinds::Bus;
 use rules::kinds::Outcome;
+use rules::kinds::Reason;
 use state::State;
 ghost use mathlib.Core.Path.{_≡_};
 ghost use mathlib.Core.List.{List, []};
@@ -15,7 +16,7 @@ ghost use Rattle.rules.specs.Responses.{Acted};
 ghost use Rattle.rules.specs.Board.{finishedCall};
 ghost use Rattle.state.specs.View.{view};
 ghost use Rattle.response.specs.Done as buffered;
-ghost use Rattle.answer.specs.Answered.{silent, callEffect, expectedEffect, Fits};
+ghost use Rattle.answer.specs.Answered.{silent, ignoredOutcome, callEffect, expectedEffect, Fits};
 
 pub struct Answer {
     pub outcome: Outcome,
@@ -29,6 +30,23 @@ pub fn no_reply(s: State) -> Answer
     Answer {
         outcome: Outcome::Nothing,
         state: s,
+    }
+}
+
+// Why an ignored frame gets no reply.
+pub fn ignored_outcome(reason: Reason) -> Outcome
+    ensures { λ r. ⌜ r ≡ ignoredOutcome reason ⌝ }
+{
+    match reason {
+        Reason::Running => Outcome::Nothing,
+        Reason::Short => Outcome::FrameTooShort,
+        Reason::Long => Outcome::FrameTooLong,
+        Reason::WrongSum => Outcome::FrameSumWrong,
+        Reason::Foreign(bus) => match bus {
+            Bus::I2c => Outcome::Nothing,
+            Bus::Rs485 => Outcome::FrameForeign,
+        },
+        Reason::OtherGeneral => Outcome::Nothing,
     }
 }
 

@@ -28,6 +28,7 @@ use Rattle.demands.specs.Past.{Known, pastOf, knownOf, wellFramed, after
 use Rattle.demands.specs.Acceptance.{newAddress, addressStatus}
 use Rattle.demands.specs.Acceptance.{Answers, Unchanged, FrameRight, ReadRight, AllRight, Demand2, StateRight, lastReadable}
 use Rattle.demands.proofs.Answered
+use Rattle.demands.proofs.Dropped
 use Rattle.demands.proofs.Received.{received-followed}
 use Rattle.demands.proofs.LastReply.{received-last}
 
@@ -105,6 +106,9 @@ module _ (p : Profile) (k : Ledger) (a : ℕ) (f : List ℕ) (n : ℕ) where
         (executed p s (commandOf (p .bus) f) (argumentsOf (p .bus) f) d)
     commanded long heard = received-handled p s d a f n (unrefused long) ∙ Answered.handled-command p s a f heard d
 
+    least : 32 ≤ p .longest
+    least = inRange-facts p range .longest-least
+
     -- the command, by its code
     abbrev acts : ℕ → Acted
     acts code = executed p s code (argumentsOf (p .bus) f) d
@@ -132,7 +136,10 @@ module _ (p : Profile) (k : Ledger) (a : ℕ) (f : List ℕ) (n : ℕ) where
           rw (commanded long heard, is, Answered.address-set p s (argumentsOf (p .bus) f) d two)
           (silent-unchanged s d (setAddress p s (argumentsOf (p .bus) f) d)
           (setAddress-outcomes p s (argumentsOf (p .bus) f) d .foreign other));
-      silence = λ long bus wrong. rw (received-handled p s d a f n (unrefused long)) (Answered.damaged-dropped p s a f d bus wrong);
+      drops = λ long some.
+          let is = received-handled p s d a f n (unrefused long) ∙ Dropped.handled-drops p s a f d least .drops some in
+          rw is (refl, refl, record { flash-is = refl; count-is = refl });
+      takes = λ long none. rw (received-handled p s d a f n (unrefused long)) (Dropped.handled-drops p s a f d least .takes none);
       started = λ long running other.
           rw (received-handled p s d a f n (unrefused long), Answered.handled-running p s a f d running other)
           (refl, record { flash-is = refl; count-is = refl });

@@ -1,5 +1,5 @@
 -- What a well-framed request gets from the board of the rules: its verdict is a command, so its answer is the command's own.
-use mathlib.Core.Path.{_≡_, refl, sym, _∙_}
+use mathlib.Core.Path.{_≡_, refl, _∙_}
 use mathlib.Core.Bool.{Bool, true, false, not, _&&_, false≢true}
 use mathlib.Core.List.{List, [], _∷_}
 use Prim.Native.Nat.{ℕ, _+_, _-_, _≤_}
@@ -14,14 +14,13 @@ use Rattle.rules.specs.declared.kinds.Verdict.{Verdict}
 use Rattle.rules.specs.declared.kinds.Verdict.the-variants.{Reset, ResetAddress, Ignored, BadTransfer, BadSum, Command}
 use Rattle.rules.specs.Profile.{Profile}
 use Rattle.rules.specs.State.{State}
-use Rattle.rules.specs.CheckSums.{sumRight}
 use Rattle.rules.specs.Frames.{shortestRequest, destination, commandOf, argumentsOf, numberAt, framing, verdict, isCommand, isGeneral}
 use Rattle.rules.specs.Frames.{resetFrame}
 use Rattle.rules.specs.Responses.{Reply, replying, ok, invalidArguments}
 use Rattle.rules.specs.Commands.{setAddress, accepted, written, finished, readable, shown, performed, executed, tabled}
 use Rattle.rules.specs.Board.{nothing, finishedCall, handled}
 use Rattle.laws.proofs.TestLaws.{by-test, &&-true}
-use Rattle.laws.proofs.VerdictLaws.{Framed, framing-cases, verdict-cases, framing-framed}
+use Rattle.laws.proofs.VerdictLaws.{Framed, framing-framed}
 use Rattle.demands.specs.Past.{pastOf, wellFramed}
 
 isCommand-true : (v : Verdict) → isCommand v ≡ true → v ≡ Command
@@ -110,23 +109,3 @@ pub handled-running : (p : Profile) (s : State) (a : ℕ) (f d : List ℕ) → s
     → handled p s a f d (verdict (p .bus) (p .longest) (s .running) (s .address) a f) ≡ nothing s d
 unfolding handled verdict
 handled-running p s a f d running other = rw (other, running)
-
--- on RS485 a damaged frame is dropped
-pub damaged-dropped : (p : Profile) (s : State) (a : ℕ) (f d : List ℕ) → p .bus ≡ Rs485 → sumRight Rs485 f ≡ false
-    → handled p s a f d (verdict (p .bus) (p .longest) (s .running) (s .address) a f) .number ≡ 1
-unfolding handled
-damaged-dropped p s a f d bus wrong =
-    verdict-cases (p .bus) (p .longest) (s .running) (s .address) a f (λ (v : Verdict). handled p s a f d v .number ≡ 1)
-    (record {
-      reset = λ e. refl;
-      run = λ g e. refl;
-      reset-address = λ g e r. refl;
-      framed = λ g e r.
-          framing-cases (p .bus) (p .longest) (s .address) a f (λ (v : Verdict). handled p s a f d v .number ≡ 1)
-          (record {
-            silent = λ reason. refl;
-            bad-transfer = λ b. cc;
-            bad-sum = λ b. cc;
-            command = λ framed. absurd (false≢true (sym wrong ∙ rw bus at (framed .sum-right)));
-          });
-    })

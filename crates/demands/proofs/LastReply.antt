@@ -14,14 +14,14 @@ use Rattle.rules.specs.declared.kinds.Verdict.{Verdict}
 use Rattle.rules.specs.declared.kinds.Verdict.the-variants.{Ignored}
 use Rattle.rules.specs.Profile.{Profile}
 use Rattle.rules.specs.State.{State}
-use Rattle.rules.specs.Numbers.{refusal}
+use Rattle.rules.specs.Numbers.{ignoredNumber, refusal}
 use Rattle.rules.specs.Frames.{reply, destination, resetFrame, resetAddressFrame, isGeneral, framing, verdict, commandOf, argumentsOf}
 use Rattle.rules.specs.Responses.{Response, Reply, NoReply, Acted, replying, invalidTransfer, invalidCrc}
 use Rattle.rules.specs.Commands.{executed}
 use Rattle.rules.specs.Board.{Called, withReply, finishedCall, handled, received}
 use Rattle.laws.proofs.TestLaws.{by-test}
 use Rattle.laws.proofs.VerdictLaws.{framing-cases, verdict-cases}
-use Rattle.laws.proofs.BoardLaws.{received-handled, received-refused, refusal-least}
+use Rattle.laws.proofs.BoardLaws.{ignored-number, received-handled, received-refused, refusal-least}
 use Rattle.demands.specs.Past.{pastOf, wellFramed, executes, keptReply, lastAfter}
 
 -- what is known after a call is what the call leaves
@@ -57,13 +57,19 @@ module _ (p : Profile) (s : State) (a : ℕ) (f d : List ℕ) where
       go (Reply status results) e = reply-last act status results e
       go NoReply e = none-last act e done
 
+  refused-last : (n : ℕ) → 2 ≤ n → lastAfter p (pastOf s) (s .last) a f n [] ≡ s .last
+  unfolding lastAfter
+  refused-last n h = rw (ne-eqb n 0 (λ e. omega arith), ne-eqb n 1 (λ e. omega arith))
+
   -- an ignored frame is not executed
   framing-last : (reason : Reason) → isGeneral (p .bus) a f (resetFrame (p .bus)) ≡ false
       → isGeneral (p .bus) a f (resetAddressFrame (p .bus)) ≡ false
       → framing (p .bus) (p .longest) (s .address) a f ≡ Ignored reason
-      → lastAfter p (pastOf s) (s .last) a f 1 [] ≡ s .last
+      → lastAfter p (pastOf s) (s .last) a f (ignoredNumber reason) [] ≡ s .last
   unfolding lastAfter wellFramed
-  framing-last reason no-reset no-address is = rw (no-reset, no-address, is, and-false (not (s .running)))
+  framing-last reason no-reset no-address is =
+      ignored-number (λ (n : ℕ). lastAfter p (pastOf s) (s .last) a f n [] ≡ s .last) reason
+      (rw (no-reset, no-address, is, and-false (not (s .running)))) refused-last
 
   handled-last : LastIs p s a f (handled p s a f d (verdict (p .bus) (p .longest) (s .running) (s .address) a f))
   unfolding handled lastAfter wellFramed
@@ -86,10 +92,6 @@ module _ (p : Profile) (s : State) (a : ℕ) (f d : List ℕ) where
             })
             refl;
       })
-
-  refused-last : (n : ℕ) → 2 ≤ n → lastAfter p (pastOf s) (s .last) a f n [] ≡ s .last
-  unfolding lastAfter
-  refused-last n h = rw (ne-eqb n 0 (λ e. omega arith), ne-eqb n 1 (λ e. omega arith))
 
   pub received-last : (n : ℕ) → LastIs p s a f (received p s a f d n)
   received-last n =

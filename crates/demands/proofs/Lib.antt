@@ -5,5 +5,6 @@ pub mod Followed
 pub mod Received
 pub mod LastReply
 pub mod Answered
+pub mod Dropped
 pub mod AllRight
 pub mod Demand1

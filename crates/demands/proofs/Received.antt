@@ -12,26 +12,28 @@ use Rattle.rules.specs.declared.kinds.Verdict.{Verdict}
 use Rattle.rules.specs.declared.kinds.Verdict.the-variants.{Ignored}
 use Rattle.rules.specs.Profile.{Profile}
 use Rattle.rules.specs.State.{State}
-use Rattle.rules.specs.Numbers.{refusal}
+use Rattle.rules.specs.Numbers.{ignoredNumber, refusal}
 use Rattle.rules.specs.Frames.{resetFrame, resetAddressFrame, isGeneral, framing, verdict}
 use Rattle.rules.specs.Responses.{invalidTransfer, invalidCrc}
-use Rattle.rules.specs.Board.{nothing, handled, received}
+use Rattle.rules.specs.Board.{nothing, refused, handled, received}
 use Rattle.laws.proofs.TestLaws.{by-test}
 use Rattle.laws.proofs.VerdictLaws.{framing-cases, verdict-cases}
-use Rattle.laws.proofs.BoardLaws.{received-handled, received-refused, refusal-least}
+use Rattle.laws.proofs.BoardLaws.{ignored-number, received-handled, received-refused, refusal-least}
 use Rattle.demands.specs.Past.{pastOf, wellFramed, afterFrame}
 use Rattle.demands.proofs.PastLaws.{after-silence, after-refusal}
 use Rattle.demands.proofs.Followed.{Follows, refused-followed, executed-followed}
 
 module _ (p : Profile) (s : State) (a : ℕ) (f d : List ℕ) where
-  -- nothing to send, to a frame that is no general call
+  -- an ignored frame that is no general call
   silent-followed : (reason : Reason) → isGeneral (p .bus) a f (resetFrame (p .bus)) ≡ false
       → isGeneral (p .bus) a f (resetAddressFrame (p .bus)) ≡ false
-      → framing (p .bus) (p .longest) (s .address) a f ≡ Ignored reason → Follows p s a f (nothing s d)
+      → framing (p .bus) (p .longest) (s .address) a f ≡ Ignored reason → Follows p s a f (refused (ignoredNumber reason) s d)
   unfolding wellFramed
   silent-followed reason no-reset no-address is =
-      after-silence p (pastOf s) a f [] no-reset (rw no-address (and-false (not (s .running))))
-      (rw (is, and-false (not (s .running))))
+      ignored-number (λ (n : ℕ). Follows p s a f (refused n s d)) reason
+      (after-silence p (pastOf s) a f [] no-reset (rw no-address (and-false (not (s .running))))
+      (rw (is, and-false (not (s .running)))))
+      (λ n h. after-refusal p (pastOf s) a f n [] h)
 
   running-followed : isGeneral (p .bus) a f (resetFrame (p .bus)) ≡ false → s .running ≡ true → Follows p s a f (nothing s d)
   unfolding wellFramed

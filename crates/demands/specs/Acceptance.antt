@@ -3,14 +3,14 @@ use mathlib.Core.Path.{_≡_}
 use mathlib.Core.Bool.{Bool, true, false, cond, not, _&&_}
 use mathlib.Core.List.{List, [], _∷_}
 use Prim.Native.Nat.{ℕ, _+_, _-_, _≤_}
-use lib.Dec.{eqb, leb}
+use lib.Dec.{eqb, leb, ltb}
 use lib.ListN.{length, take, drop, getD}
 use Rattle.rules.specs.declared.kinds.Bus.{Bus}
 use Rattle.rules.specs.declared.kinds.Bus.the-variants.{I2c, Rs485}
 use Rattle.rules.specs.Profile.{Profile, inRange}
 use Rattle.rules.specs.State.{State, wellFormed}
 use Rattle.rules.specs.CheckSums.{sumRight}
-use Rattle.rules.specs.Frames.{reply, destination, addressed, isGeneral, resetFrame, commandOf, argumentsOf, numberAt, twoBytes}
+use Rattle.rules.specs.Frames.{reply, destination, answersTo, addressed, isGeneral, resetFrame, commandOf, argumentsOf, numberAt, twoBytes}
 use Rattle.rules.specs.Responses.{ok, invalidArguments}
 use Rattle.rules.specs.Commands.{addressTaken, reserved, typeMatches, accepted, readable}
 use Rattle.ledger.specs.Ledger.{Ledger}
@@ -29,6 +29,17 @@ newAddress bus f = addressTaken bus (getD (argumentsOf bus f) 0 0)
 
 abbrev pub addressStatus : Bus → List ℕ → ℕ
 addressStatus bus f = cond (reserved bus (newAddress bus f)) invalidArguments ok
+
+-- W3: the number of a frame that is dropped, on RS485 while not running: too short, too long, wrong CRC, another board's address, the
+-- first of these that applies; 0 for any other frame. Address 0 is never foreign
+abbrev pub dropped : Bus → ℕ → Past → List ℕ → ℕ
+dropped I2c M past f = 0
+dropped Rs485 M past f =
+    cond (past .running) 0
+    (cond (ltb (length f) 4) 15
+    (cond (ltb M (length f)) 16
+    (cond (not (sumRight Rs485 f)) 17
+    (cond (not (eqb (getD f 0 0) 0) && not (answersTo (past .address) (getD f 0 0))) 18 0))))
 
 -- the step answers 0 with this status and these results
 pub record Answers (p : Profile) (s : Step) (a : ℕ) (f : List ℕ) (status : ℕ) (results : List ℕ) : Type 0 where
@@ -72,8 +83,11 @@ pub record FrameRight (p : Profile) (k : Known) (s : Step) (a : ℕ) (f : List �
       p .longest ≤ n → wellFramed p (k .past) a f ≡ true → commandOf (p .bus) f ≡ 0x01 → length (argumentsOf (p .bus) f) ≡ 2
       → typeMatches p (getD (argumentsOf (p .bus) f) 1 0) ≡ false
       → (s .number ≡ 1) × Unchanged k s
-  -- on RS485 a damaged frame gets no reply
-  pub silence : p .longest ≤ n → p .bus ≡ Rs485 → sumRight Rs485 f ≡ false → s .number ≡ 1
+  -- a dropped frame gets its number and no reply, and changes nothing; no other frame gets a number of 2 or above
+  pub drops :
+      p .longest ≤ n → (dropped (p .bus) (p .longest) (k .past) f ≡ 0 → ⊥)
+      → (s .number ≡ dropped (p .bus) (p .longest) (k .past) f) × (s .reply ≡ []) × Unchanged k s
+  pub takes : p .longest ≤ n → dropped (p .bus) (p .longest) (k .past) f ≡ 0 → s .number ≤ 1
   -- after start every frame but the reset answers 1 and changes nothing
   pub started :
       p .longest ≤ n → k .past .running ≡ true → isGeneral (p .bus) a f (resetFrame (p .bus)) ≡ false → (s .number ≡ 1) × Unchanged k s

@@ -1,6 +1,7 @@
 // A frame handled by its verdict, on a board that refuses it by none of numbers 2 to 5.
 use answer::Answer;
 use answer::fault;
+use answer::ignored_outcome;
 use answer::no_reply;
 use frame::request::destination;
 use profile::Profile;
@@ -39,7 +40,10 @@ pub fn handle(
     match v {
         Verdict::Reset => no_reply(State::fresh()),
         Verdict::ResetAddress => no_reply(s.address_reset()),
-        Verdict::Ignored(_) => no_reply(s),
+        Verdict::Ignored(reason) => Answer {
+            outcome: ignored_outcome(reason),
+            state: s,
+        },
         Verdict::BadTransfer => fault(
             bus,
             destination(bus, address, frame),

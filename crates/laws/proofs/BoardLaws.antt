@@ -10,11 +10,13 @@ use lib.ListN.{length}
 use borrow.Author.Tests.{eqb-true, eq-eqb, ne-eqb}
 use Rattle.rules.specs.declared.kinds.Bus.{Bus}
 use Rattle.rules.specs.declared.kinds.Bus.the-variants.{I2c, Rs485}
+use Rattle.rules.specs.declared.kinds.Reason.{Reason}
+use Rattle.rules.specs.declared.kinds.Reason.the-variants.{Running, Short, Long, WrongSum, Foreign, OtherGeneral}
 use Rattle.rules.specs.declared.kinds.Verdict.{Verdict}
 use Rattle.rules.specs.declared.kinds.Verdict.the-variants.{Reset, ResetAddress, Ignored, BadTransfer, BadSum, Command}
 use Rattle.rules.specs.Profile.{Profile, inRange}
 use Rattle.rules.specs.State.{State, fresh, withLast, wellFormed}
-use Rattle.rules.specs.Numbers.{refusal, flashShort, bufferShort, Unrefused}
+use Rattle.rules.specs.Numbers.{ignoredNumber, refusal, flashShort, bufferShort, Unrefused}
 use Rattle.rules.specs.Frames.{reply, addressed, destination, verdict, ignored, commandOf, argumentsOf}
 use Rattle.rules.specs.Commit.{OutsideKept}
 use Rattle.rules.specs.Responses.{Response, Reply, NoReply, Acted, invalidTransfer, invalidCrc}
@@ -92,7 +94,7 @@ module _ (p : Profile) (s : State) (d : List ℕ) where
   handled-formed-call n a f Reset unrefused = nothing-formed p 1 fresh d (fresh-wellFormed p)
   handled-formed-call n a f ResetAddress unrefused =
       nothing-formed p 1 (addressReset s) d (addressReset-formed p s (unrefused-state unrefused .upload))
-  handled-formed-call n a f (Ignored reason) unrefused = nothing-formed p 1 s d (unrefused .well-formed)
+  handled-formed-call n a f (Ignored reason) unrefused = nothing-formed p (ignoredNumber reason) s d (unrefused .well-formed)
   handled-formed-call n a f BadTransfer unrefused =
       finishedCall-formed-call p d (destination (p .bus) a f)
       _ (replying-formed-result p (unrefused-profile unrefused) s (unrefused-state unrefused .upload) d (unrefused .flash-holds)
@@ -142,6 +144,19 @@ module _ (p : Profile) (s : State) (d : List ℕ) where
   unfolding received
   received-refused a f n ne = rw (ne-eqb _ _ ne)
 
+-- the number of an ignored frame is 1, or 2 or above
+pub ignored-number : (P : ℕ → Type 0) (reason : Reason) → P 1 → ((n : ℕ) → 2 ≤ n → P n) → P (ignoredNumber reason)
+ignored-number P Running one more = one
+ignored-number P Short one more = more 15 (omega arith)
+ignored-number P Long one more = more 16 (omega arith)
+ignored-number P WrongSum one more = more 17 (omega arith)
+ignored-number P (Foreign I2c) one more = one
+ignored-number P (Foreign Rs485) one more = more 18 (omega arith)
+ignored-number P OtherGeneral one more = one
+
+pub ignored-unanswered : (reason : Reason) → 1 ≤ ignoredNumber reason
+ignored-unanswered reason = ignored-number (λ (n : ℕ). 1 ≤ n) reason (omega arith) (λ n h. omega arith)
+
 -- a command's answer has number 0 or 1
 pub finishedCall-number : (bus : Bus) (a : ℕ) (act : Acted) → finishedCall bus a act .number ≤ 1
 finishedCall-number bus a act = go (act .response)
@@ -151,8 +166,17 @@ finishedCall-number bus a act = go (act .response)
     go NoReply = omega arith
 
 module _ (p : Profile) (s : State) (a : ℕ) (f d : List ℕ) where
-  -- an ignored frame gets no reply, and state and flash are untouched
-  pub ignored-untouched : (v : Verdict) → ignored v ≡ true → handled p s a f d v ≡ nothing s d
+  -- an ignored frame is not answered 0, and state and flash are untouched
+  pub ignored-silent : (v : Verdict) → ignored v ≡ true → 1 ≤ handled p s a f d v .number
+  unfolding handled
+  ignored-silent Reset e = omega arith
+  ignored-silent ResetAddress e = omega arith
+  ignored-silent (Ignored reason) e = ignored-unanswered reason
+  ignored-silent BadTransfer e = absurd (false≢true e)
+  ignored-silent BadSum e = absurd (false≢true e)
+  ignored-silent Command e = absurd (false≢true e)
+
+  pub ignored-untouched : (v : Verdict) → ignored v ≡ true → handled p s a f d v ≡ refused (handled p s a f d v .number) s d
   unfolding handled
   ignored-untouched Reset e = cc
   ignored-untouched ResetAddress e = cc
@@ -177,9 +201,7 @@ module _ (p : Profile) (s : State) (a : ℕ) (f d : List ℕ) where
 
   -- so a number of 2 or above leaves state and flash untouched
   pub handled-untouched : (v : Verdict) → 2 ≤ handled p s a f d v .number → handled p s a f d v ≡ refused (handled p s a f d v .number) s d
-  handled-untouched v h =
-      let same = ignored-untouched v (numbered-ignored v h) in
-      same ∙ ap (λ (c : Called). refused (c .number) s d) (sym same)
+  handled-untouched v h = ignored-untouched v (numbered-ignored v h)
 
 -- a refusal is 2 or above
 pub refusal-least : (p : Profile) (s : State) (n m : ℕ) → eqb (refusal p s n m) 0 ≡ false → 2 ≤ refusal p s n m

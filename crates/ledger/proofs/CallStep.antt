@@ -15,8 +15,8 @@ use Rattle.rules.specs.State.{State, wellFormed}
 use Rattle.rules.specs.Numbers.{refusal, flashShort, bufferShort, Unrefused}
 use Rattle.rules.specs.Frames.{destination, framing, verdict}
 use Rattle.rules.specs.Responses.{invalidTransfer, invalidCrc}
-use Rattle.rules.specs.Board.{nothing, addressReset, handled, received, readOut, readAnswered}
-use Rattle.laws.proofs.BoardLaws.{refusal-least}
+use Rattle.rules.specs.Board.{addressReset, refused, handled, received, readOut, readAnswered}
+use Rattle.laws.proofs.BoardLaws.{ignored-number, refusal-least}
 use Rattle.laws.proofs.StateLaws.{refusal-unrefused}
 use Rattle.laws.proofs.TestLaws.{by-test}
 use Rattle.laws.proofs.VerdictLaws.{framing-cases, verdict-cases}
@@ -36,10 +36,11 @@ module _ (p : Profile) (s : State) (d : List ℕ) (k : Ledger) (a : ℕ) (f : Li
   unfolding handled
   framing-handles h form =
       let kept = serving-keeps p s d k h in
-      let dropped : Entered p k a f (nothing s d) = nothing-no-entry p k a f s d form kept in
       framing-cases (p .bus) (p .longest) (s .address) a f Handles
       (record {
-        silent = λ reason. dropped;
+        silent = λ reason.
+            ignored-number (λ (n : ℕ). Entered p k a f (refused n s d)) reason (nothing-no-entry p k a f s d form kept)
+            (λ n h. refused-no-entry p k a f n s d h kept);
         bad-transfer = λ i2c. error-no-entry p k a f (destination (p .bus) a f) invalidTransfer [] s d refl kept;
         bad-sum = λ i2c. error-no-entry p k a f (destination (p .bus) a f) invalidCrc [] s d refl kept;
         command = λ framed. executed-enters p s d k a f (destination (p .bus) a f) h form;

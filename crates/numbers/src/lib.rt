@@ -19,6 +19,10 @@ pub fn board_number(outcome: Outcome) -> u32
         Outcome::FlashTooShort => 3,
         Outcome::StateMalformed => 4,
         Outcome::BufferTooShort => 5,
+        Outcome::FrameTooShort => 15,
+        Outcome::FrameTooLong => 16,
+        Outcome::FrameSumWrong => 17,
+        Outcome::FrameForeign => 18,
     }
 }
 
@@ -33,6 +37,10 @@ pub fn reply_length(outcome: Outcome) -> usize
         Outcome::FlashTooShort => 0,
         Outcome::StateMalformed => 0,
         Outcome::BufferTooShort => 0,
+        Outcome::FrameTooShort => 0,
+        Outcome::FrameTooLong => 0,
+        Outcome::FrameSumWrong => 0,
+        Outcome::FrameForeign => 0,
     }
 }
 

@@ -22,7 +22,7 @@ use Rattle.rules.specs.Master.{Decoding, opened, decoded, resultsIn, resultsMis
 use Rattle.laws.proofs.TestLaws.{by-test}
 use Rattle.laws.proofs.FrameLaws.{Ends, decoded-reply, results-reply}
 use Rattle.laws.proofs.CommandLaws.{executed-cases}
-use Rattle.laws.proofs.BoardLaws.{withReply-last}
+use Rattle.laws.proofs.BoardLaws.{ignored-unanswered, withReply-last}
 use Rattle.ledger.specs.Calls.{ruled}
 use Rattle.reset_claims.specs.Running.{SaysKnown, BootloaderKnown}
 
@@ -99,7 +99,7 @@ module _ (p : Profile) (s : State) (a : ℕ) (f d : List ℕ) where
   unfolding handled
   handled-last Reset i e = absurd (omega (arith, e))
   handled-last ResetAddress i e = absurd (omega (arith, e))
-  handled-last (Ignored reason) i e = absurd (omega (arith, e))
+  handled-last (Ignored reason) i e = absurd (omega (arith, e, ignored-unanswered reason))
   handled-last BadTransfer i e = replied-last (p .bus) _ (Reply 3 []) s d i e
   handled-last BadSum i e = replied-last (p .bus) _ (Reply 4 []) s d i e
   handled-last Command i e =

@@ -11,7 +11,7 @@ use Rattle.rules.specs.declared.kinds.Verdict.{Verdict}
 use Rattle.rules.specs.declared.kinds.Verdict.the-variants.{Reset, ResetAddress, Ignored, BadTransfer, BadSum, Command}
 use Rattle.rules.specs.Profile.{Profile}
 use Rattle.rules.specs.State.{State, fresh, withAddress, withLast}
-use Rattle.rules.specs.Numbers.{refusal}
+use Rattle.rules.specs.Numbers.{ignoredNumber, refusal}
 use Rattle.rules.specs.Frames.{reply, destination, addressed, verdict, commandOf, argumentsOf}
 use Rattle.rules.specs.Responses.{Response, Reply, NoReply, Acted, replying, invalidTransfer, invalidCrc}
 use Rattle.rules.specs.Commands.{executed}
@@ -46,19 +46,19 @@ finishedCall bus address a = replied bus address (a .response) (a .state) (a .fl
 abbrev pub addressReset : State → State
 addressReset s = withLast (withAddress s DefaultRange) []
 
--- a frame by its verdict
+-- a call answered by a number of 2 or above: all untouched
+abbrev pub refused : ℕ → State → List ℕ → Called
+refused n s d = record { number = n; reply = []; state = s; flash = d }
+
+-- a frame by its verdict; W3: an ignored one leaves all untouched, its number says why
 unfoldable pub handled : Profile → State → ℕ → List ℕ → List ℕ → Verdict → Called
 handled p s a f d Reset = nothing fresh d
 handled p s a f d ResetAddress = nothing (addressReset s) d
-handled p s a f d (Ignored reason) = nothing s d
+handled p s a f d (Ignored reason) = refused (ignoredNumber reason) s d
 handled p s a f d BadTransfer = finishedCall (p .bus) (destination (p .bus) a f) (replying s d invalidTransfer [])
 handled p s a f d BadSum = finishedCall (p .bus) (destination (p .bus) a f) (replying s d invalidCrc [])
 handled p s a f d Command =
     finishedCall (p .bus) (destination (p .bus) a f) (executed p s (commandOf (p .bus) f) (argumentsOf (p .bus) f) d)
-
--- a call refused by a number of 2 or above: all untouched
-abbrev pub refused : ℕ → State → List ℕ → Called
-refused n s d = record { number = n; reply = []; state = s; flash = d }
 
 -- a received frame; the I²C address stands beside it, RS485 does not look at it
 unfoldable pub received : Profile → State → ℕ → List ℕ → List ℕ → ℕ → Called

@@ -1,7 +1,8 @@
 -- Document 01, "Proved examples", in one table with one statement. E1 to E12, the last three on both buses and at two offsets; the edges
 -- that it names as rows 13 to 19; a shorter upload over a longer one as row 20; the edges of the sizes (numbers 2 and 4) as rows 21 to 29;
--- the edges of the reserved addresses (W1) as rows 30 to 34; version 0.0 and its reset (W4) as rows 35 to 37.
-use mathlib.Core.Bool.{Bool, false, cond}
+-- the edges of the reserved addresses (W1) as rows 30 to 34; version 0.0 and its reset (W4) as rows 35 to 37; why a frame got no reply
+-- (W3) as rows 38 to 41.
+use mathlib.Core.Bool.{Bool, true, false, cond}
 use mathlib.Core.List.{List, [], _∷_, _++_, map}
 use Prim.Native.Nat.{ℕ, _+_}
 use lib.ListN.{length, take, drop, replicate, getD}
@@ -11,7 +12,8 @@ use Rattle.rules.specs.declared.kinds.Address.the-variants.{DefaultRange
 use Rattle.rules.specs.declared.requests.Request.the-variants.{SetAddress}
 use Rattle.rules.specs.Bytes.{same}
 use Rattle.rules.specs.Profile.{Profile}
-use Rattle.rules.specs.State.{State, fresh}
+use Rattle.rules.specs.State.{State, fresh, withRunning}
+use Rattle.rules.specs.CheckSums.{sealed}
 use Rattle.rules.specs.Numbers.{refusal}
 use Rattle.rules.specs.Frames.{headerLength, request, reply, resetFrame, resetAddressFrame}
 use Rattle.rules.specs.Board.{Called, nothing, received}
@@ -129,6 +131,10 @@ exampleVersion major minor = versionRule major minor .number
 
 abbrev pub numbered : Encoding → List ℕ
 numbered e = e .number ∷ e .bytes
+
+-- the number of a frame's answer on RS485, with M = 32, from a board that is running or not
+abbrev pub exampleSilence : Bool → List ℕ → ℕ
+exampleSilence running f = received (built Rs485 32 128 0 1 []) (withRunning fresh running) 0 f (replicate 128 0xFF) 32 .number
 
 -- the erase count that a call left
 abbrev pub countAfter : Called → ℕ
@@ -248,4 +254,19 @@ rows =
     -- with no room: M of 31 and 257 before any version, 14 before 6, and a known version has nothing to write
     ∷ row 37 (numbered (runningReset I2c 31 0 1 0) ++ numbered (runningReset I2c 257 2 2 0) ++ numbered (runningReset I2c 32 0 1 0)
     ++ numbered (runningReset I2c 32 2 2 0) ++ numbered (runningReset Rs485 256 1 0 4)) (2 ∷ 2 ∷ 14 ∷ 1 ∷ 1 ∷ [])
+    -- W3: frames of 0 bytes, of 3 with right CRC, of 4, of M, of M + 1; a wrong CRC; addresses 7, 15, 16
+    ∷ row 38 (map (exampleSilence false) ([] ∷ sealed Rs485 (8 ∷ []) ∷ request Rs485 8 0x00 [] ∷ request Rs485 8 0x06 (replicate 28 0)
+    ∷ request Rs485 8 0x06 (replicate 29 0) ∷ (8 ∷ 0x00 ∷ 0x06 ∷ 0x71 ∷ []) ∷ request Rs485 7 0x00 [] ∷ request Rs485 15 0x00 []
+    ∷ request Rs485 16 0x00 [] ∷ []))
+    (15 ∷ 15 ∷ 0 ∷ 0 ∷ 16 ∷ 17 ∷ 18 ∷ 0 ∷ 18 ∷ [])
+    -- the first that applies: short and foreign; long, damaged and foreign; damaged and foreign
+    ∷ row 39 (map (exampleSilence false) ((7 ∷ 0 ∷ []) ∷ replicate 33 7 ∷ (7 ∷ 0x00 ∷ 0x06 ∷ 0x70 ∷ []) ∷ [])) (15 ∷ 16 ∷ 17 ∷ [])
+    -- to 0, which is never foreign: another general call, both of the pair, damaged, short, long
+    ∷ row 40 (map (exampleSilence false) (request Rs485 0 0x00 [] ∷ resetFrame Rs485 ∷ resetAddressFrame Rs485
+    ∷ (0x00 ∷ 0x46 ∷ 0x80 ∷ 0x43 ∷ []) ∷ (0x00 ∷ 0x46 ∷ []) ∷ replicate 33 0 ∷ []))
+    (1 ∷ 1 ∷ 1 ∷ 17 ∷ 15 ∷ 16 ∷ [])
+    -- while running 1: short, long, damaged, foreign, and the reset
+    ∷ row 41 (map (exampleSilence true) ([] ∷ replicate 33 7 ∷ (8 ∷ 0x00 ∷ 0x06 ∷ 0x71 ∷ []) ∷ request Rs485 7 0x00 []
+    ∷ resetFrame Rs485 ∷ []))
+    (1 ∷ 1 ∷ 1 ∷ 1 ∷ 1 ∷ [])
     ∷ []

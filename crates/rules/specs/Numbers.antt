@@ -7,7 +7,10 @@ use lib.Dec.{ltb}
 use lib.ListN.{length, drop}
 use Rattle.rules.specs.declared.kinds.Outcome.{Outcome}
 use Rattle.rules.specs.declared.kinds.Outcome.the-variants.{Reply, Nothing, ProfileOutOfRange, FlashTooShort, StateMalformed}
-use Rattle.rules.specs.declared.kinds.Outcome.the-variants.{BufferTooShort}
+use Rattle.rules.specs.declared.kinds.Outcome.the-variants.{BufferTooShort, FrameTooShort, FrameTooLong, FrameSumWrong, FrameForeign}
+use Rattle.rules.specs.declared.kinds.Bus.the-variants.{I2c, Rs485}
+use Rattle.rules.specs.declared.kinds.Reason.{Reason}
+use Rattle.rules.specs.declared.kinds.Reason.the-variants.{Running, Short, Long, WrongSum, Foreign, OtherGeneral}
 use Rattle.rules.specs.Profile.{Profile, inRange}
 use Rattle.rules.specs.State.{State, wellFormed}
 
@@ -19,6 +22,10 @@ number ProfileOutOfRange = 2
 number FlashTooShort = 3
 number StateMalformed = 4
 number BufferTooShort = 5
+number FrameTooShort = 15
+number FrameTooLong = 16
+number FrameSumWrong = 17
+number FrameForeign = 18
 
 -- how many bytes of the lent output an answer says were made
 abbrev pub made : Outcome → ℕ
@@ -28,6 +35,20 @@ made ProfileOutOfRange = 0
 made FlashTooShort = 0
 made StateMalformed = 0
 made BufferTooShort = 0
+made FrameTooShort = 0
+made FrameTooLong = 0
+made FrameSumWrong = 0
+made FrameForeign = 0
+
+-- W3: the number of an ignored frame. On RS485 15 short, 16 long, 17 CRC, 18 foreign; 1 stays for all else
+abbrev pub ignoredNumber : Reason → ℕ
+ignoredNumber Running = 1
+ignoredNumber Short = 15
+ignoredNumber Long = 16
+ignoredNumber WrongSum = 17
+ignoredNumber (Foreign Rs485) = 18
+ignoredNumber (Foreign I2c) = 1
+ignoredNumber OtherGeneral = 1
 
 -- 0 fills k bytes of the lent output from its start; the rest stays
 abbrev pub laid : List ℕ → List ℕ → List ℕ

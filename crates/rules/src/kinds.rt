@@ -53,4 +53,9 @@ pub enum Outcome {
     FlashTooShort,
     StateMalformed,
     BufferTooShort,
+    // W3, on RS485: why a received frame gets no reply.
+    FrameTooShort,
+    FrameTooLong,
+    FrameSumWrong,
+    FrameForeign,
 }

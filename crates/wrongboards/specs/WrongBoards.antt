@@ -6,15 +6,20 @@ use Prim.Native.Nat.{ℕ, suc, _+_, _-_, _%_}
 use lib.Dec.{eqb, ltb}
 use lib.ListN.{length, take, set, getD, replicate}
 use Rattle.rules.specs.declared.kinds.Bus.{Bus}
+use Rattle.rules.specs.declared.kinds.Bus.the-variants.{Rs485}
 use Rattle.rules.specs.declared.kinds.Address.the-variants.{Own}
+use Rattle.rules.specs.declared.kinds.Reason.{Reason}
+use Rattle.rules.specs.declared.kinds.Reason.the-variants.{Running, Short, Long, WrongSum, Foreign, OtherGeneral}
+use Rattle.rules.specs.declared.kinds.Verdict.the-variants.{Reset, ResetAddress, Ignored, BadTransfer, BadSum, Command}
 use Rattle.rules.specs.Profile.{Profile}
 use Rattle.rules.specs.State.{State, Upload, fresh, withAddress, withRunning, withUpload}
+use Rattle.rules.specs.Numbers.{ignoredNumber}
 use Rattle.rules.specs.CheckSums.{sumRight}
 use Rattle.rules.specs.Frames.{destination, ignored, isCommand, commandOf, argumentsOf, numberAt, twoBytes}
 use Rattle.rules.specs.Commit.{Progress, committed, finalized}
 use Rattle.rules.specs.Responses.{Reply, NoReply, Acted, ok, invalidArguments, invalidCrc, replying}
 use Rattle.rules.specs.Commands.{addressTaken, reserved, typeMatches, started, executed}
-use Rattle.rules.specs.Board.{finishedCall, handled}
+use Rattle.rules.specs.Board.{finishedCall, refused, handled}
 use Rattle.ledger.specs.Calls.{Call, Frame, Read, Reaction, Board, calls}
 use Rattle.wrongboards.specs.Variations.{Handling, Rule, Commit, handlingBy, boardBy, ruledBy, committedBy, asks}
 
@@ -252,3 +257,35 @@ refusesAndMoves =
     let a : Acted = executed p s code args d in
     let moved : State = withAddress (a .state) (Own (addressTaken (p .bus) (getD args 0 0))) in
     cond (eqb code 0x01 && eqb (length args) 2) (record { response = a .response; state = moved; flash = a .flash }) a)
+
+-- W3, why a frame got no reply
+
+-- one that numbers ignored frames by another rule, of the frame and the reason
+abbrev pub numbering : (List ℕ → Reason → ℕ) → Handling
+numbering rule p s a f d Reset = handled p s a f d Reset
+numbering rule p s a f d ResetAddress = handled p s a f d ResetAddress
+numbering rule p s a f d (Ignored reason) = refused (rule f reason) s d
+numbering rule p s a f d BadTransfer = handled p s a f d BadTransfer
+numbering rule p s a f d BadSum = handled p s a f d BadSum
+numbering rule p s a f d Command = handled p s a f d Command
+
+abbrev pub numbersIgnored : (List ℕ → Reason → ℕ) → Board
+numbersIgnored rule = boardBy (handlingBy (numbering rule))
+
+-- the rules' numbers, but a short or a long frame with a wrong CRC is 17
+abbrev pub sumFirst : List ℕ → Reason → ℕ
+sumFirst f Running = 1
+sumFirst f Short = cond (sumRight Rs485 f) 15 17
+sumFirst f Long = cond (sumRight Rs485 f) 16 17
+sumFirst f WrongSum = 17
+sumFirst f (Foreign bus) = ignoredNumber (Foreign bus)
+sumFirst f OtherGeneral = 1
+
+-- the rules' numbers, but for a running board's silence and for another general call
+abbrev pub numberedSo : ℕ → ℕ → List ℕ → Reason → ℕ
+numberedSo running general f Running = running
+numberedSo running general f Short = 15
+numberedSo running general f Long = 16
+numberedSo running general f WrongSum = 17
+numberedSo running general f (Foreign bus) = ignoredNumber (Foreign bus)
+numberedSo running general f OtherGeneral = general

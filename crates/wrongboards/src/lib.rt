@@ -17,6 +17,7 @@ ghost use Rattle.wrongboards.specs.WrongBoards.{finalizesOnStart, refuse
 ghost use Rattle.wrongboards.specs.WrongBoards.{ignoresStart, takesForeignType, silentFaults, answersWrong, refusedErases};
 ghost use Rattle.wrongboards.specs.WrongBoards.{readsErase, writesOutside, growsFlash, erasesRunning, showsCount, countsWrites};
 ghost use Rattle.wrongboards.specs.WrongBoards.{refusesAddresses, refusesForeignType, refusesAndMoves, keepsTopBit};
+ghost use Rattle.wrongboards.specs.WrongBoards.{numbersIgnored, sumFirst, numberedSo};
 
 // The variations that the wrong boards are made by are right themselves: with the rules' own parts they are the board of the rules.
 pub fn varied_right()
@@ -188,4 +189,11 @@ pub fn refuses_free_addresses()
 // A reserved address that is tested before the type: demand 2, another type gets no reply.
 pub fn refuses_foreign_type()
     ensures { λ _. ⌜ (Demand2 refusesForeignType → ⊥) ⌝ }
+{}
+
+// W3: a board that says 1 to every ignored frame, one that tests the CRC before the length, one that calls another general call foreign, and
+// one that numbers frames while it runs: demand 2, a dropped frame gets the first of its numbers, and no other frame gets one.
+pub fn wrong_silences()
+    ensures { λ _. ⌜ (Demand2 (numbersIgnored (λ f reason. 1)) → ⊥) × (Demand2 (numbersIgnored sumFirst) → ⊥)
+        × (Demand2 (numbersIgnored (numberedSo 1 18)) → ⊥) × (Demand2 (numbersIgnored (numberedSo 18 1)) → ⊥) ⌝ }
 {}

@@ -1,6 +1,7 @@
 -- `handling::handle` meets its contract: each arm is the rules' case for that verdict.
 use Rattle.handling.proofs.HandleLaws.{command-long}
 use Rattle.rules.specs.Board.{handled}
+use Rattle.answer.proofs.AnsweredLaws.{ignored-effect}
 use Rattle.laws.proofs.StateLaws.{unrefused-profile}
 use mathlib.Core.Path.{refl, sym, _∙_}
 use native.Mathlib.Omega.{arith}
@@ -29,14 +30,14 @@ address-reset-requires c κs = search needs
 no-reply-requires-2 : tie.Need-no-reply-requires-2
 no-reply-requires-2 c κs = search needs
 
+enum-known-v : tie.Need-enum-known-v
+enum-known-v c = search needs
+
+ignored-outcome-requires : tie.Need-ignored-outcome-requires
+ignored-outcome-requires c κs = search needs
+
 enum-told-3 : tie.Need-enum-told-3
 enum-told-3 c = search needs
-
-no-reply-requires-3 : tie.Need-no-reply-requires-3
-no-reply-requires-3 c κs = search needs
-
-enum-told-4 : tie.Need-enum-told-4
-enum-told-4 c = search needs
 
 destination-requires : tie.Need-destination-requires
 destination-requires c κs = search needs
@@ -46,8 +47,8 @@ fault-requires c κs =
     let st = c .before .before .before .before .before .before .before .before in
     omega (arith, unrefused-profile (st .pre) .longest-least, st .pre .buffer-holds)
 
-enum-told-5 : tie.Need-enum-told-5
-enum-told-5 c = search needs
+enum-told-4 : tie.Need-enum-told-4
+enum-told-4 c = search needs
 
 destination-requires-2 : tie.Need-destination-requires-2
 destination-requires-2 c κs = search needs
@@ -57,8 +58,8 @@ fault-requires-2 c κs =
     let st = c .before .before .before .before .before .before .before .before in
     omega (arith, unrefused-profile (st .pre) .longest-least, st .pre .buffer-holds)
 
-enum-told-6 : tie.Need-enum-told-6
-enum-told-6 c = search needs
+enum-told-5 : tie.Need-enum-told-5
+enum-told-5 c = search needs
 
 serve-requires : tie.Need-serve-requires
 serve-requires c κs =
@@ -67,7 +68,7 @@ serve-requires c κs =
     let st = j .before .before .before .before in (
       st .pre,
       command-long (st .args .p .bus) (st .args .p .longest) (st .args .s .running) (st .args .s .address) (st .args .address)
-          (st .args .frame .now) (sym (j .classify .ensures) ∙ e .enum-told6 .given .1),
+          (st .args .frame .now) (sym (j .classify .ensures) ∙ e .enum-told5 .given .1),
     )
 
 returns : tie.Need-returns
@@ -87,8 +88,10 @@ returns-2 c =
 returns-3 : tie.Need-returns-3
 unfolding handled
 returns-3 c =
-    let j = c .before .before .before in
-    rw (← j .classify .ensures, c .before .enum-told3 .given .1, c .no-reply3 .ensures) (record { called = refl; untouched = λ e. refl })
+    let k = c .before .before in
+    let j = k .before .before in
+    rw (← j .classify .ensures, k .v .given .1, c .ignored-outcome .ensures)
+    (record { called = ignored-effect _ _ _ _; untouched = λ e. refl })
 
 same-length : tie.Need-same-length
 same-length c = search needs
@@ -99,7 +102,7 @@ returns-4 c =
     let t = c .before .before .before .before in
     let j = t .before .before .before in
     let st = j .before .before .before .before in
-    rw (← j .classify .ensures, t .before .enum-told4 .given .1, ← t .destination .ensures)
+    rw (← j .classify .ensures, t .before .enum-told3 .given .1, ← t .destination .ensures)
     (record { called = c .before .before .fault .ensures (st .args .flash .now); untouched = λ e. cc })
 
 same-length-2 : tie.Need-same-length-2
@@ -111,7 +114,7 @@ returns-5 c =
     let t = c .before .before .before .before in
     let j = t .before .before .before in
     let st = j .before .before .before .before in
-    rw (← j .classify .ensures, t .before .enum-told5 .given .1, ← t .destination2 .ensures)
+    rw (← j .classify .ensures, t .before .enum-told4 .given .1, ← t .destination2 .ensures)
     (record { called = c .before .before .fault2 .ensures (st .args .flash .now); untouched = λ e. cc })
 
 same-length-3 : tie.Need-same-length-3
@@ -126,7 +129,7 @@ returns-6 c =
     let v = c .before .before .before .before in
     let e = v .before .before .before in
     let j = e .before .before in
-    rw (← j .classify .ensures, e .enum-told6 .given .1) (record { called = v .serve .ensures; untouched = λ e. cc })
+    rw (← j .classify .ensures, e .enum-told5 .given .1) (record { called = v .serve .ensures; untouched = λ e. cc })
 
 pub handle-spec : {M : Type 1} → statement M
 handle-spec =
@@ -139,15 +142,15 @@ handle-spec =
     enum-told-2
     address-reset-requires
     no-reply-requires-2
+    enum-known-v
+    ignored-outcome-requires
     enum-told-3
-    no-reply-requires-3
-    enum-told-4
     destination-requires
     fault-requires
-    enum-told-5
+    enum-told-4
     destination-requires-2
     fault-requires-2
-    enum-told-6
+    enum-told-5
     serve-requires
     returns
     returns-2

@@ -16,7 +16,7 @@ refused : Demand2 invalidCrcSent → ⊥
 unfolding computing
 refused h =
     let right = h (small Rs485 64) (zeros 64) (Frame 8 (8 ∷ 0 ∷ 0 ∷ 0 ∷ []) 128 ∷ []) refl room in
-    let number : _≡_ {A = ℕ} 0 1 = right .0 .silence buffer refl refl in
+    let number : _≡_ {A = ℕ} 0 17 = right .0 .drops buffer (λ e. omega arith) .0 in
     omega arith
 
 returns : tie.Need-returns
