@@ -90,8 +90,9 @@ unfolding handled
 returns-3 c =
     let k = c .before .before in
     let j = k .before .before in
+    let st = j .before .before .before .before in
     rw (← j .classify .ensures, k .v .given .1, c .ignored-outcome .ensures)
-    (record { called = ignored-effect _ _ _ _; untouched = λ e. refl })
+    (record { called = ignored-effect (k .v .given .0 .0) (st .args .s) (st .args .flash .now) (st .args .out .now); untouched = λ e. refl })
 
 same-length : tie.Need-same-length
 same-length c = search needs
