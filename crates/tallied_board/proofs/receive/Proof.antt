@@ -219,3 +219,109 @@ module _ {M : Type 1} (𝓤 : URA M) (H : Heap 𝓤) (A : Atoms 𝓤) (W : Given
   goes-counted r v =
       qed W (‵ (T.the-row .own h (LL.vals T.the-type T′.the-laws h)) ∷ ‵ (R.the-row .own r (v ∷ [])) ∷ []) ∵
       nothing ! $ move ! (2 ∷ 0 ∷ []) $ fjoin ! $ move ! (1 ∷ 0 ∷ []) $ fjoin ! $ nothing ! $ join ! $ frame ! $ done !
+
+  module _ (C : Calls 𝓤 H) (Λ : Loops 𝓤 H) (fm : FmC 𝓤 H (W .laws) C) (known : Triple 𝓤 (C #board·receive) (Board 𝓤 H A at-mem run))
+      (known-counted : Triple 𝓤 (C #counted) (Counted 𝓤 H A at-mem run)) where
+    walk : Is P.the-row p (vp ∷ []) → Is S.the-row s (vs ∷ []) → address < 2 ^ 8 → Is (ShrSlice (named 0) κ₀ u8) bytes (v₄ ∷ [])
+        → Room u8 (length (flash .now)) → Room u8 (length (out .now))
+        → ent 𝓤 (onEntry 𝓤 H A receive.signature κs qs x₇ u₇)
+        (WpFn 𝓤 H C Λ code.function (vp ∷ vs ∷ vint w8 address ∷ v₄ ∷ v₅ ∷ v₆ ∷ vptr b o ∷ []) Post)
+    walk is-p is-s fits is-bytes room₅ room₆ =
+        qed W (raw (onEntry 𝓤 H A receive.signature κs qs x₇ u₇) ∷ []) ∵
+        enter ! C Λ code.function (vp ∷ vs ∷ vint w8 address ∷ v₄ ∷ v₅ ∷ v₆ ∷ vptr b o ∷ []) _ $
+        alloc1 ! (λ l₀. alloc1 ! (λ l₁. alloc1 ! (λ l₂. alloc1 ! (λ l₃. alloc1 ! (λ l₄. alloc1 ! (λ l₅. alloc1 ! (λ l₆. alloc1 ! (λ l₇.
+        alloc1 ! (λ l₈. alloc1 ! (λ l₉. alloc1 ! (λ l₁₀. alloc1 ! (λ l₁₁. alloc1 ! (λ l₁₂. alloc1 ! (λ l₁₃. alloc1 ! (λ l₁₄. alloc0 ! $ params1 ! $
+        pass1 ! (init ! 26 refl (LL.lawful P.the-type P′.the-laws 𝓤 H A W .typed p _ is-p .0)) $
+        pass1 ! (init ! 24 refl (LL.lawful S.the-type S′.the-laws 𝓤 H A W .typed s _ is-s .0)) $
+        pass1 ! (init ! 22 refl (tt, record { fits = fits })) $
+        pass1 ! (init ! 20 refl (shr-slice-lawful 𝓤 H A W (named 0) κ₀ u8 .typed bytes _ is-bytes .0)) $
+        pass1 ! (init ! 18 refl (tt, (tt, (record { fits = room₅ .0 }, tt)))) $
+        pass1 ! (init ! 16 refl (tt, (tt, (record { fits = room₆ .0 }, tt)))) $ pass1 ! (init ! 14 refl (tt, tt)) $ pass0 ! $
+        -- [_14; …; _13; …; .. _1; …; room for _0; …; the entry]
+        assigns ! (addr ! (from ! (fld ! refl (hop ! (look-in ! 18 (sub ! 0 refl (whole !))) (stop !))))) (from ! (stop !)) (init ! 10 refl (tt, tt)) $
+        assigns ! (agg ! (and-then ! (load ! (from ! (stop !)) (look ! 10 refl)) (and-then ! (load ! (from ! (fld ! refl (stop !))) (look-in ! 18 (sub ! 1 refl (whole !)))) (no-more !))))
+        (from ! (stop !)) (init ! 8 refl (tt, (tt, (record { fits = room₅ .0 }, tt)))) $
+        assigns ! (addr ! (from ! (fld ! refl (hop ! (look-in ! 16 (sub ! 0 refl (whole !))) (stop !))))) (from ! (stop !)) (init ! 6 refl (tt, tt)) $
+        assigns ! (agg ! (and-then ! (load ! (from ! (stop !)) (look ! 6 refl)) (and-then ! (load ! (from ! (fld ! refl (stop !))) (look-in ! 16 (sub ! 1 refl (whole !)))) (no-more !))))
+        (from ! (stop !)) (init ! 4 refl (tt, (tt, (record { fits = room₆ .0 }, tt)))) $
+        move ! (30 ∷ []) $ use1 W (raw (Board 𝓤 H A at-mem run .pre to-board) ⊛ ‵ (Obs h) ⊛ ‵ Bor ⊛ ‵ (flft κ₃ q₃)) apart $ split ! $
+        -- [what `board::receive` asks; the tally's borrow; _14; …]
+        calls-at ! fm (Board 𝓤 H A at-mem run) known to-board
+        (and-then ! (load ! (from ! (stop !)) (look ! 28 refl)) (and-then ! (load ! (from ! (stop !)) (look ! 26 refl))
+        (and-then ! (load ! (from ! (stop !)) (look ! 24 refl)) (and-then ! (load ! (from ! (stop !)) (look ! 22 refl))
+        (and-then ! (load ! (from ! (stop !)) (look ! 10 refl)) (and-then ! (load ! (from ! (stop !)) (look ! 6 refl)) (no-more !))))))) (λ v.
+        use1 W (later (some (λ (r : Answer). (Tokens ⊛ ‵ (R.the-row .own r (v ∷ [])))
+        ⊛ raw (ensured 𝓤 H A board.ended (board.clauses 𝓤 H A at-mem run) (κ₀, (κ₁, (κ₂, tt))) x₆ tt r)))) (id⊢ 𝓤 _) $ await ! tt $ pick ! (λ r.
+        split ! $ move ! (1 ∷ []) $ use1 W (some (λ (e : List ℕ × List ℕ). Lasts e ⊛ raw (fact 𝓤 (Said r e)))) (board-of r) $ pick ! (λ e.
+        split ! $ move ! (1 ∷ []) $ heard ! (Said r e) (λ f. move ! (1 ∷ []) $ split ! $ move ! (1 ∷ []) $
+        peeks ! R.the-row (Is R.the-row) (shows 𝓤 H A R.the-row) r (v ∷ []) (λ is-r.
+        -- [the answer; the tokens; the last bytes; the tally's borrow; _14; …]
+        land ! (from ! (stop !)) (init ! 16 refl (LL.lawful R.the-type R′.the-laws 𝓤 H A W .typed r _ is-r .0)) $
+        move ! (3 ∷ []) $ split ! $ move ! (1 ∷ []) $ split ! $ move ! (2 ∷ 0 ∷ 1 ∷ []) $
+        opens ! tt T.the-row {h = h} b o (λ us. spelt ! T.the-row (Is T.the-row) (shows 𝓤 H A T.the-row) (LL.vals T.the-type T′.the-laws)
+        (LL.tells T.the-type T′.the-laws) fullShare h us b o $ move ! (1 ∷ []) $
+        peeks ! T.the-row (Is T.the-row) (shows 𝓤 H A T.the-row) h (LL.vals T.the-type T′.the-laws h) (λ is-h. move ! (1 ∷ 0 ∷ []) $
+        -- [the tally's cell; what the tally owns; the open borrow; obs; auth; the answer; the tokens; the last bytes; _14; …]
+        assigns ! (of-opd ! (load ! (from ! (hop ! (look ! 22 refl) (stop !))) (look-raw ! 0 refl))) (from ! (stop !))
+        (init ! 8 refl (LL.lawful T.the-type T′.the-laws 𝓤 H A W .typed h _ is-h .0)) $
+        owned ! R.the-row (Is R.the-row) (LL.makes R.the-type R′.the-plain 𝓤 H A) r (v ∷ []) is-r $
+        move ! (2 ∷ 0 ∷ []) $ use2 W (raw (Counted 𝓤 H A at-mem run .pre (to-counted r v))) (goes-counted r v) $
+        calls-at ! fm (Counted 𝓤 H A at-mem run) known-counted (to-counted r v)
+        (and-then ! (load ! (from ! (stop !)) (look ! 8 refl)) (and-then ! (load ! (from ! (stop !)) (look ! 20 refl)) (no-more !))) (λ w.
+        use1 W (later (some (λ (n : Tally). (‵ ftrue ⊛ ‵ (T.the-row .own n (w ∷ [])))
+        ⊛ raw (ensured 𝓤 H A counted.ended (counted.clauses 𝓤 H A at-mem run) tt (h, (r, tt)) tt n)))) (id⊢ 𝓤 _) $ await ! tt $ pick ! (λ n.
+        split ! $ move ! (1 ∷ []) $ use1 W (raw (fact 𝓤 (n ≡ tallied h (number (r .outcome))))) (counted-of 𝓤 H A at-mem run h r n) $
+        heard ! (n ≡ tallied h (number (r .outcome))) (λ g. split ! $ drop ! $
+        peeks ! T.the-row (Is T.the-row) (shows 𝓤 H A T.the-row) n (w ∷ []) (λ is-n.
+        -- [what the new tally owns; the tally's cell; the open borrow; obs; auth; the answer; the tokens; the last bytes; _14; …]
+        land ! (from ! (stop !)) (init ! 10 refl (LL.lawful T.the-type T′.the-laws 𝓤 H A W .typed n _ is-n .0)) $
+        assigns ! (of-opd ! (load ! (from ! (stop !)) (look ! 10 refl))) (from ! (hop ! (look ! 22 refl) (stop !)))
+        (store-raw ! 1 refl (LL.lawful T.the-type T′.the-laws 𝓤 H A W .typed n _ is-n .0)) $
+        assigns ! (of-opd ! (load ! (from ! (stop !)) (look ! 20 refl))) (from ! (stop !))
+        (init ! 36 refl (LL.lawful R.the-type R′.the-laws 𝓤 H A W .typed r _ is-r .0)) $
+        move ! (1 ∷ 0 ∷ []) $ closes ! tt T.the-row n (w ∷ []) b o $
+        -- [obs; the borrow; its token; the answer; the tokens; the last bytes; _14; …]
+        returns ! (look ! 34 refl) $ forget ! 6 refl $ forget ! 8 refl $ forget ! 10 refl $ forget ! 12 refl $ forget ! 14 refl $ forget ! 16 refl $ forget ! 18 refl $ forget ! 20 refl $ forget ! 22 refl $ forget ! 24 refl $ forget ! 26 refl $ forget ! 28 refl $ forget ! 30 refl $ forget ! 32 refl $ forget ! 34 refl $
+        move ! (34 ∷ 35 ∷ []) $ free1 ! $ move ! (32 ∷ 33 ∷ []) $ free1 ! $ move ! (30 ∷ 31 ∷ []) $ free1 ! $ move ! (28 ∷ 29 ∷ []) $ free1 ! $ move ! (26 ∷ 27 ∷ []) $ free1 ! $ move ! (24 ∷ 25 ∷ []) $ free1 ! $ move ! (22 ∷ 23 ∷ []) $ free1 ! $ move ! (20 ∷ 21 ∷ []) $ free1 ! $ move ! (18 ∷ 19 ∷ []) $ free1 ! $ move ! (16 ∷ 17 ∷ []) $ free1 ! $ move ! (14 ∷ 15 ∷ []) $ free1 ! $ move ! (12 ∷ 13 ∷ []) $ free1 ! $ move ! (10 ∷ 11 ∷ []) $ free1 ! $ move ! (8 ∷ 9 ∷ []) $ free1 ! $ move ! (6 ∷ 7 ∷ []) $ free1 ! $ free0 ! $
+        by ! (exits r v n e f g)))))))))))))))))))))))))))
+
+module _ {M : Type 1} (𝓤 : URA M) (H : Heap 𝓤) (A : Atoms 𝓤) (W : Given 𝓤 H A) (at-mem : Memory → SProp 𝓤) (run : Routine → Fun 𝓤) where
+  receive-walks : (C : Calls 𝓤 H) (Λ : Loops 𝓤 H) → FmC 𝓤 H (W .laws) C → Triple 𝓤 (C #board·receive) (Board 𝓤 H A at-mem run)
+      → Triple 𝓤 (C #counted) (Counted 𝓤 H A at-mem run)
+      → Walks 𝓤 H A receive.ended stayed (WpFn 𝓤 H C Λ code.function) (receive.clauses 𝓤 H A at-mem run)
+  receive-walks C Λ fm known known-counted =
+      walked 𝓤 H A receive.ended stayed (receive.clauses 𝓤 H A at-mem run) (WpFn 𝓤 H C Λ code.function)
+      (λ κs. (LL.vals P.the-type P′.the-laws, (LL.vals S.the-type S′.the-laws, (uint-vals w8, (slice-vals, (slice-vals, (slice-vals, (ptr-vals, tt))))))))
+      (λ κs. (LL.tells P.the-type P′.the-laws, (LL.tells S.the-type S′.the-laws, (uint-tells w8, (shr-slice-tells (named 0) (κs .0) u8,
+      (mut-slice-tells (named 1) (κs .1 .0) u8, (mut-slice-tells (named 2) (κs .1 .1 .0) u8, (mut-tells (named 3) (κs .1 .1 .1 .0) T.the-row, tt))))))))
+      (λ κs qs bounds a g are. via 𝓤 _ (fst∗ 𝓤 _ (emp 𝓤))
+      (let t = a .1 .1 .1 .1 .1 .1 .0 in
+      walk 𝓤 H A W at-mem run (κs .0) (κs .1 .0) (κs .1 .1 .0) (κs .1 .1 .1 .0) (qs .0) (qs .1 .0) (qs .1 .1 .0) (qs .1 .1 .1 .0)
+      (a .0) (a .1 .0) (a .1 .1 .0) (a .1 .1 .1 .0) (a .1 .1 .1 .1 .0) (a .1 .1 .1 .1 .1 .0) (t .ptr .0) (t .ptr .1) (t .name) (t .now)
+      (LL.val P.the-type P′.the-laws (a .0)) (LL.val S.the-type S′.the-laws (a .1 .0)) C Λ fm known known-counted
+      (are .0) (are .1 .0) (are .1 .1 .0 .1) (are .1 .1 .1 .0) (are .1 .1 .1 .1 .0 .0 .1) (are .1 .1 .1 .1 .1 .0 .0 .1)))
+
+  goes : AllGo 𝓤 H A W 4 (receive.signature .params) (receive.ended .kept) stayed
+  goes =
+      (goes-dropped 𝓤 H A W 4 (plain (λ _. P.the-row)) yes (λ κs x f. refl), (goes-dropped 𝓤 H A W 4 (plain (λ _. S.the-row)) yes (λ κs x f. refl),
+      (goes-dropped 𝓤 H A W 4 (plain (λ _. u8)) yes (λ κs x f. refl),
+      (goes-dropped 𝓤 H A W 4 (shrSliceOf (0 ∷ []) tt (plain (λ _. u8))) yes (λ κs x f. refl), (goes-gave-slice 𝓤 H A W 4 1 tt (plain (λ _. u8)),
+      (goes-gave-slice 𝓤 H A W 4 2 tt (plain (λ _. u8)), (goes-ref 𝓤 H A W 4 3 tt (plain (λ _. T.the-row)), tt)))))))
+
+receive-meets : {M : Type 1} (𝓤 : URA M) (H : Heap 𝓤) (A : Atoms 𝓤) (W : Given 𝓤 H A) (at-mem : Memory → SProp 𝓤) (run : Routine → Fun 𝓤)
+    (𝓣 : Tables 𝓤 H) → Triple 𝓤 (𝓣 .C #board·receive) (Board 𝓤 H A at-mem run) → Triple 𝓤 (𝓣 .C #counted) (Counted 𝓤 H A at-mem run)
+    → Meets 𝓤 H A receive.signature (WpFn 𝓤 H (𝓣 .C) (𝓣 .Λ) code.function) (receive.spec 𝓤 H A at-mem run)
+receive-meets 𝓤 H A W at-mem run 𝓣 known known-counted =
+    walk-meets 𝓤 H A receive.ended stayed W (goes 𝓤 H A W at-mem run) (receive.clauses 𝓤 H A at-mem run)
+    (WpFn 𝓤 H (𝓣 .C) (𝓣 .Λ) code.function) (WpFn-mono 𝓤 H (W .laws) 𝓣 code.function)
+    (receive-walks 𝓤 H A W at-mem run (𝓣 .C) (𝓣 .Λ) (fmOf 𝓤 H (W .laws) 𝓣) known known-counted)
+
+pub receive-spec : {M : Type 1} → stated.statement M
+unfolding code.routine tablesOf
+receive-spec 𝓤 H 𝓜 𝓖 𝓡 =
+    entered 𝓤 H (tripleOf 𝓤 H (𝓖 .A) receive.signature (receive.spec 𝓤 H (𝓖 .A) (𝓜 .mem) (𝓡 .run)))
+    (tables 𝓤 H 𝓜 𝓡 code.env .C) (tables 𝓤 H 𝓜 𝓡 code.env .Λ) #receive code.function (code.unfolded 𝓤 H 𝓜 𝓡)
+    (receive-meets 𝓤 H (𝓖 .A) (givenOf 𝓤 H 𝓜 𝓖) (𝓜 .mem) (𝓡 .run) (tablesOf 𝓤 H 𝓜 (tables 𝓤 H 𝓜 𝓡 code.env))
+    (cited 𝓤 H (Board 𝓤 H (𝓖 .A) (𝓜 .mem) (𝓡 .run)) 𝓜 𝓡 code.env #board·receive board-def.routine code.calls-board·receive (board-thm.met 𝓤 H 𝓜 𝓖 𝓡))
+    (cited 𝓤 H (Counted 𝓤 H (𝓖 .A) (𝓜 .mem) (𝓡 .run)) 𝓜 𝓡 code.env #counted counted-def.routine code.calls-tallied-board·counted-answer
+    (counted-thm.met 𝓤 H 𝓜 𝓖 𝓡)))
