@@ -1,4 +1,4 @@
--- What the board's call with a lent tally promises: all that the call without it does, and the tally by the rules' number.
+-- What the board's call with a lent tally promises: all that the call without one does, and the tally by the rules' number.
 use mathlib.Core.Path.{_≡_}
 use mathlib.Core.List.{List}
 use Prim.Native.Nat.{ℕ}
@@ -10,8 +10,9 @@ use Rattle.answer.specs.Answered.{FrameAnswered}
 use Rattle.tally.specs.declared.Tally.{Tally}
 use Rattle.tally.specs.Tally.{tallied}
 
--- a received frame of verdict v was answered by r, and left the flash d, the buffer out and the tally, which were before and kept
-pub record FrameTallied (s : State) (r : Answer) (d out before : List ℕ) (tally kept : Tally) (c : Called) (v : Verdict) : Type 0 where
+-- a received frame of verdict v on the state s was answered by r, and left the flash d, the buffer out, which was before, and the tally t,
+-- which was t₀
+pub record FrameTallied (s : State) (r : Answer) (d out before : List ℕ) (t t₀ : Tally) (c : Called) (v : Verdict) : Type 0 where
   pub answered : FrameAnswered s r d out before c v
-  -- the tally after the number that the rules answer
-  pub counted : tally ≡ tallied kept (c .number)
+  -- counted once, by the number that the rules give this very call
+  pub counted : t ≡ tallied t₀ (c .number)
