@@ -22,7 +22,16 @@ more-requires-5 : tie.Need-more-requires-5
 more-requires-5 c κs = search needs
 
 returns : tie.Need-returns
-returns c = cc
+returns c =
+    let m = c .before .before .before .before in
+    rw (
+      m .more .ensures,
+      c .before .before .before .more2 .ensures,
+      c .before .before .more3 .ensures,
+      c .before .more4 .ensures,
+      c .more5 .ensures,
+      m .before .board-number .ensures,
+    )
 
 pub counted-spec : {M : Type 1} → statement M
 counted-spec =
