@@ -1,0 +1,2 @@
+-- What a counted board call promises.
+pub mod Tallied

@@ -1,0 +1,2 @@
+-- The tally of received frames.
+pub mod Tally
