@@ -44,16 +44,22 @@ fn more(counts: bool, n: u16) -> u16
     n
 }
 
-// The tally after a frame and its answer. No counter rises with 1 to 5.
+// The tally after a frame that was answered by a number. No counter rises with 1 to 5.
+pub fn counted_by(t: Tally, number: u32) -> Tally
+    ensures { λ r. ⌜ r ≡ tallied t number ⌝ }
+{
+    Tally {
+        short: more(number == 15, t.short),
+        long: more(number == 16, t.long),
+        sum: more(number == 17, t.sum),
+        foreign: more(number == 18, t.foreign),
+        answered: more(number == 0, t.answered),
+    }
+}
+
+// The tally after a frame and its answer.
 pub fn counted(t: Tally, outcome: Outcome) -> Tally
     ensures { λ r. ⌜ r ≡ tallied t (number outcome) ⌝ }
 {
-    let n = board_number(outcome);
-    Tally {
-        short: more(n == 15, t.short),
-        long: more(n == 16, t.long),
-        sum: more(n == 17, t.sum),
-        foreign: more(n == 18, t.foreign),
-        answered: more(n == 0, t.answered),
-    }
+    counted_by(t, board_number(outcome))
 }

@@ -1,4 +1,4 @@
--- `tally::counted` meets its contract: each counter by what `more` says, at the number that `board_number` says.
+-- `tally::counted` meets its contract: counted by the answer's number.
 use borrow.Author.Needs.{needs}
 use Rattle.tally.proofs.counted.Statement.{statement}
 use Rattle.tally.proofs.counted.Tie as tie
@@ -6,41 +6,11 @@ use Rattle.tally.proofs.counted.Tie as tie
 board-number-requires : tie.Need-board-number-requires
 board-number-requires c κs = search needs
 
-more-requires : tie.Need-more-requires
-more-requires c κs = search needs
-
-more-requires-2 : tie.Need-more-requires-2
-more-requires-2 c κs = search needs
-
-more-requires-3 : tie.Need-more-requires-3
-more-requires-3 c κs = search needs
-
-more-requires-4 : tie.Need-more-requires-4
-more-requires-4 c κs = search needs
-
-more-requires-5 : tie.Need-more-requires-5
-more-requires-5 c κs = search needs
+counted-by-requires : tie.Need-counted-by-requires
+counted-by-requires c κs = search needs
 
 returns : tie.Need-returns
-returns c =
-    let m = c .before .before .before .before in
-    rw (
-      m .more .ensures,
-      c .before .before .before .more2 .ensures,
-      c .before .before .more3 .ensures,
-      c .before .more4 .ensures,
-      c .more5 .ensures,
-      m .before .board-number .ensures,
-    )
+returns c = rw (c .counted-by .ensures, c .before .board-number .ensures)
 
 pub counted-spec : {M : Type 1} → statement M
-counted-spec =
-    tie.close
-    (tie.spec
-    board-number-requires
-    more-requires
-    more-requires-2
-    more-requires-3
-    more-requires-4
-    more-requires-5
-    returns)
+counted-spec = tie.close (tie.spec board-number-requires counted-by-requires returns)
