@@ -1,6 +1,6 @@
-// The C boundary of a board: the fresh state, a received frame, an I²C read, as include/childbus.h declares them, over byte slices and
-// numbers. A slice is a pointer and a length to C, a `&mut` number the place of a single result. No call has a `requires`: any bytes of any
-// length get the answer that specs/ fixes.
+// The C boundary of a board: the fresh state, a received frame, the same counted, an I²C read, as include/childbus.h declares them, over
+// byte slices and numbers. A slice is a pointer and a length to C, a `&mut` number the place of a single result. No call has a `requires`:
+// any bytes of any length get the answer that specs/ fixes.
 use fields::clip;
 use normalize::normalize;
 use numbers::board_number;
@@ -8,6 +8,7 @@ use numbers::reply_length;
 use state::State;
 ghost use mathlib.Core.Path.{_≡_};
 ghost use Rattle.childbus_board.specs.BoardBytes.{freshLeft, FreshLeft, receivedLeft, ReceivedLeft, readLeft, ReadLeft};
+ghost use Rattle.childbus_board.specs.TallyCall.{CountedLeft, countedLeft};
 ghost use Rattle.childbus_board.specs.Kept.{Kept};
 
 // The fresh board.
@@ -49,6 +50,31 @@ pub extern "C" fn childbus_receive(
         return number;
     }
     state_writer::state_to(normalize(left), state);
+    number
+}
+
+// A received frame, counted in the lent tally.
+#[no_mangle]
+pub extern "C" fn childbus_receive_tally(
+    profile: &[u8],
+    state: &mut [u8],
+    address: u32,
+    frame: &[u8],
+    flash: &mut [u8],
+    out: &mut [u8],
+    tally: &mut [u8],
+    made: &mut usize,
+) -> u32
+    ensures { λ r.
+        ⌜ _≡_ {A = CountedLeft}
+        (record { received = record {
+            number = r; made = now (made .exit); state = now (state .exit); flash = now (flash .exit); out = now (out .exit) };
+            tally = now (tally .exit) })
+        (countedLeft (now (profile .entry)) (now (state .entry)) address (now (frame .entry)) (now (flash .entry)) (now (out .entry))
+        (now (tally .entry))) ⌝ }
+{
+    let number = childbus_receive(profile, state, address, frame, flash, out, made);
+    tally_bytes::count(tally, number);
     number
 }
 
