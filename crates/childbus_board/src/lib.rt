@@ -67,9 +67,16 @@ pub extern "C" fn childbus_receive_tally(
 ) -> u32
     ensures { λ r.
         ⌜ _≡_ {A = CountedLeft}
-        (record { received = record {
-            number = r; made = now (made .exit); state = now (state .exit); flash = now (flash .exit); out = now (out .exit) };
-            tally = now (tally .exit) })
+        (record {
+          received = record {
+            number = r;
+            made = now (made .exit);
+            state = now (state .exit);
+            flash = now (flash .exit);
+            out = now (out .exit);
+          };
+          tally = now (tally .exit);
+        })
         (countedLeft (now (profile .entry)) (now (state .entry)) address (now (frame .entry)) (now (flash .entry)) (now (out .entry))
         (now (tally .entry))) ⌝ }
 {
