@@ -1,0 +1,4 @@
+pub mod Counters
+pub mod Chains
+pub mod Ruled
+pub mod OfCode
