@@ -235,7 +235,7 @@ pub fn any_tally(rng: &mut Rng) -> Tally {
     let mut counter = || match rng.below(3) {
         0 => rng.number() as u16,
         1 => rng.of(&[0, 0, 1, 254, 255, 256, 32_767, 32_768]) as u16,
-        _ => rng.of(&[65_279, 65_280, 65_530, 65_532, 65_533, 65_534, 65_535]) as u16,
+        _ => rng.of(&[65_279, 65_532, 65_533, 65_534, 65_534, 65_535, 65_535]) as u16,
     };
     Tally::of([counter(), counter(), counter(), counter(), counter()])
 }
@@ -266,7 +266,12 @@ pub fn silent_frame(rng: &mut Rng, p: &Profile, own: u8) -> Vec<u8> {
             framed(p.bus, to, rng.byte() % 16, &fill(length.saturating_sub(rest)))
         }
         4 => framed(p.bus, to, VERSION, &fill(rng.of(&[300, 400, 590]) as usize)),
-        5 => general_frame(p.bus, rng.of(&[4, 6, 5]) as u8),
+        5 => {
+            let mut frame = general_frame(p.bus, rng.of(&[4, 6, 6, 5]) as u8);
+            let last = frame.len() - 1;
+            frame[last] ^= rng.of(&[0, 1, 16]) as u8;
+            frame
+        }
         6 => write_frame(p.bus, to, 0, &fill(rng.below(8) as usize)),
         _ => framed(p.bus, to, rng.byte() % 16, &[]),
     };
