@@ -55,8 +55,14 @@ pub enum Item {
 #[derive(Clone, Debug)]
 pub enum BoardCall {
     /// Counted: by the call that takes a tally.
-    Receive { address: u32, frame: Vec<u8>, counted: bool },
-    Read { address: u32 },
+    Receive {
+        address: u32,
+        frame: Vec<u8>,
+        counted: bool,
+    },
+    Read {
+        address: u32,
+    },
 }
 
 #[derive(Clone, Debug)]

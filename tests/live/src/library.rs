@@ -176,8 +176,7 @@ pub fn receive_tally(
     let ((p, pn), (s, sn), (f, fn_)) = (profile.read(), state.write(), frame.read());
     let ((m, mn), (o, on), (t, tn)) = (flash.write(), out.write(), tally.write());
     let mut made = UNSET;
-    let number =
-        unsafe { c::childbus_receive_tally(p, pn, s, sn, address, f, fn_, m, mn, o, on, t, tn, &mut made) };
+    let number = unsafe { c::childbus_receive_tally(p, pn, s, sn, address, f, fn_, m, mn, o, on, t, tn, &mut made) };
     (number, made)
 }
 

@@ -92,12 +92,18 @@ const TALLY_EDGES: [TallyEdge; 14] = [
     ("just 10 bytes", |r, t| t.len == TALLY_BYTES && (r.number == 0 || r.number >= 15)),
     ("more than 10 bytes", |r, t| t.len > TALLY_BYTES && (r.number == 0 || r.number >= 15)),
     ("kept by a reset, RS485", |r, t| r.is(1) && r.frame == general_frame(Bus::Rs485, 6) && t.is_set()),
-    ("kept by a reset while running", |r, t| r.is(1) && r.s.running && r.frame == general_frame(Bus::Rs485, 6) && t.is_set()),
+    ("kept by a reset while running", |r, t| {
+        r.is(1) && r.s.running && r.frame == general_frame(Bus::Rs485, 6) && t.is_set()
+    }),
     ("kept by a reset, I2C", |r, t| r.silent_i2c() && r.address == 0 && r.frame == [0x06] && t.is_set()),
     ("kept by a reset address, RS485", |r, t| r.is(1) && r.frame == general_frame(Bus::Rs485, 4) && t.is_set()),
-    ("I2C no bytes answered", |r, t| r.p.bus == Bus::I2c && r.number == 0 && r.frame.is_empty() && t.counters.is_some()),
+    ("I2C no bytes answered", |r, t| {
+        r.p.bus == Bus::I2c && r.number == 0 && r.frame.is_empty() && t.counters.is_some()
+    }),
     ("I2C foreign not counted", |r, t| r.silent_i2c() && r.address > 127 && t.is_set()),
-    ("start not counted", |r, t| r.is(1) && r.frame.get(1) == Some(&START) && !r.s.running && r.frame.len() == 4 && t.is_set()),
+    ("start not counted", |r, t| {
+        r.is(1) && !r.to_all() && !r.s.running && r.frame.get(1) == Some(&START) && t.is_set()
+    }),
     ("refused with a tally", |r, t| (2..=5).contains(&r.number) && t.is_set()),
 ];
 
