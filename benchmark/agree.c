@@ -1,4 +1,4 @@
-/* Compares the library and the plain C call by call: numbers, outputs with their untouched rest, states, flash. */
+/* Compares the library and the plain C call by call: numbers, outputs with their untouched rest, states, flash, tallies. */
 #include <stdio.h>
 #include <stdlib.h>
 #include <string.h>
@@ -34,6 +34,15 @@ static bool same_state(const uint8_t *b, const struct plain_state *s)
            memcmp(b + CHILDBUS_STATE_REPLY, s->reply, least(s->reply_len, sizeof s->reply)) == 0;
 }
 
+/* The same tally. */
+static bool same_tally(const uint8_t *b, const struct plain_tally *tally)
+{
+    for (size_t i = 0; i < 5; i++)
+        if ((b[2 * i] | b[2 * i + 1] << 8) != (i < 4 ? tally->dropped[i] : tally->answered))
+            return false;
+    return true;
+}
+
 /* The benchmark's inputs. */
 
 static bool job_agrees(const struct job *job)
@@ -47,6 +56,7 @@ static bool job_agrees(const struct job *job)
         const struct input *in = &inputs[i];
         const uint8_t *bytes = pool + in->at;
         uint32_t number = 0, plain_number = 0, status = 0, plain_status = 0;
+        uint32_t expected = job->kind == DROPPED ? 15 + (uint32_t)i : 0;
         size_t made = 0, plain_made = 0, start = 0, plain_start = 0;
         switch (job->kind) {
         case UPLOAD_FIRST:
@@ -56,6 +66,15 @@ static bool job_agrees(const struct job *job)
                                       bytes, in->len, boards.flash[LIBRARY], FLASH, out, job->frame, &made);
             plain_number = plain_receive(&boards.plain_profile, &boards.plain_state, ADDRESS, bytes, in->len,
                                          boards.flash[PLAIN], FLASH, plain_out, job->frame, &plain_made);
+            break;
+        case UPLOAD_TALLY:
+        case DROPPED:
+            number = childbus_receive_tally(boards.profile, sizeof boards.profile, boards.state, sizeof boards.state,
+                                            ADDRESS, bytes, in->len, boards.flash[LIBRARY], FLASH, out, job->frame,
+                                            boards.tally, sizeof boards.tally, &made);
+            plain_number = plain_receive_tally(&boards.plain_profile, &boards.plain_state, ADDRESS, bytes, in->len,
+                                               boards.flash[PLAIN], FLASH, plain_out, job->frame, &boards.plain_tally,
+                                               &plain_made);
             break;
         case READ_REPLY:
             number = childbus_read(boards.profile, sizeof boards.profile, boards.state, sizeof boards.state, ADDRESS,
@@ -84,9 +103,9 @@ static bool job_agrees(const struct job *job)
                                            inputs[0].len, &plain_start, &plain_made) ^ 2;
             break;
         }
-        if (number != 0 || number != plain_number || made != plain_made || status != plain_status ||
+        if (number != expected || number != plain_number || made != plain_made || status != plain_status ||
             start != plain_start || memcmp(out, plain_out, sizeof boards.out[0]) != 0 ||
-            !same_state(boards.state, &boards.plain_state) ||
+            !same_state(boards.state, &boards.plain_state) || !same_tally(boards.tally, &boards.plain_tally) ||
             memcmp(boards.flash[LIBRARY], boards.flash[PLAIN], FLASH) != 0) {
             printf("%s, bus %u, frames of %u: the sides differ at call %zu (library %u, plain %u)\n",
                    kind_name(job->kind), (unsigned)job->bus, (unsigned)job->frame, i, (unsigned)number,
@@ -122,10 +141,11 @@ static bool one_in(uint32_t n)
 enum { SMALL_FLASH = 64 * 8 };
 
 struct trial {
-    uint8_t profile[36], state[344], before[344], flash[SMALL_FLASH], out[300], bytes[600];
-    size_t profile_len, state_len, flash_len, out_len, len;
+    uint8_t profile[36], state[344], before[344], flash[SMALL_FLASH], out[300], bytes[700], tally[12];
+    size_t profile_len, state_len, flash_len, out_len, len, tally_len;
     struct plain_profile plain_profile;
     struct plain_state plain_state;
+    struct plain_tally plain_tally;
     uint8_t plain_flash[SMALL_FLASH], plain_out[300];
 };
 
@@ -202,7 +222,21 @@ static void random_state_of(void)
     t.state_len = CHILDBUS_STATE_BYTES;
 }
 
-/* A request that fits the board, with a right check sum; now and then damaged or cut. */
+/* Counters of which most are near their ends; now and then no tally, as the buffer is too short. */
+static void random_tally(void)
+{
+    for (size_t i = 0; i < sizeof t.tally; i++)
+        t.tally[i] = (uint8_t)any();
+    for (size_t i = 0; i < 5; i++) {
+        uint16_t value = (uint16_t)(one_in(3) ? any() : one_in(2) ? 65535 - below(4) : 256 - below(4));
+        t.tally[2 * i] = (uint8_t)value;
+        t.tally[2 * i + 1] = (uint8_t)(value >> 8);
+        *(i < 4 ? &t.plain_tally.dropped[i] : &t.plain_tally.answered) = value;
+    }
+    t.tally_len = one_in(10) ? below(CHILDBUS_TALLY_BYTES) : CHILDBUS_TALLY_BYTES + below(3);
+}
+
+/* A request that fits the board, with a right check sum; now and then damaged, cut or far too long. */
 static void random_frame(void)
 {
     const struct plain_profile *p = &t.plain_profile;
@@ -238,6 +272,9 @@ static void random_frame(void)
                 f[at + 2] = (uint8_t)below(one_in(2) ? 40 : 256);
         }
         at += args;
+        if (one_in(30))
+            for (size_t end = at + below(300); at < end; at++)
+                f[at] = (uint8_t)any();
     }
     if (p->bus == PLAIN_I2C) {
         f[at] = plain_crc8(f, at);
@@ -266,6 +303,7 @@ static bool board_turn(size_t turn)
 {
     random_profile();
     random_state_of();
+    random_tally();
     t.flash_len = one_in(40) ? below(SMALL_FLASH) : SMALL_FLASH;
     for (size_t i = 0; i < SMALL_FLASH; i++)
         t.flash[i] = t.plain_flash[i] = one_in(8) ? (uint8_t)any() : 0xff;
@@ -295,11 +333,23 @@ static bool board_turn(size_t turn)
         size_t made = 77, plain_made = 0;
         uint32_t number, plain_number = 2; /* a profile buffer that is too short has no struct either */
         bool whole = t.profile_len == CHILDBUS_PROFILE_BYTES;
+        /* a buffer that is no tally: the call is the same, and nothing is counted */
+        bool no_tally = t.tally_len < CHILDBUS_TALLY_BYTES;
+        uint8_t tally_before[sizeof t.tally];
+        memcpy(tally_before, t.tally, sizeof t.tally);
         if (one_in(4)) {
             number = childbus_read(t.profile, t.profile_len, t.state, t.state_len, address, t.flash, t.flash_len,
                                    t.out, t.out_len, &made);
             if (whole)
                 plain_number = plain_read(&t.plain_profile, s, address, t.flash_len, t.plain_out, t.out_len, &plain_made);
+        } else if (one_in(2)) {
+            random_frame();
+            number = childbus_receive_tally(t.profile, t.profile_len, t.state, t.state_len, address, t.bytes, t.len,
+                                            t.flash, t.flash_len, t.out, t.out_len, t.tally, t.tally_len, &made);
+            struct plain_tally unused = t.plain_tally;
+            if (whole)
+                plain_number = plain_receive_tally(&t.plain_profile, s, address, t.bytes, t.len, t.plain_flash, t.flash_len,
+                                                   t.plain_out, t.out_len, no_tally ? &unused : &t.plain_tally, &plain_made);
         } else {
             random_frame();
             number = childbus_receive(t.profile, t.profile_len, t.state, t.state_len, address, t.bytes, t.len, t.flash,
@@ -311,6 +361,9 @@ static bool board_turn(size_t turn)
         if (number != plain_number || made != plain_made || memcmp(t.out, t.plain_out, sizeof t.out) != 0 ||
             memcmp(t.flash, t.plain_flash, SMALL_FLASH) != 0)
             return differ("board call", turn);
+        if (!same_tally(t.tally, &t.plain_tally) ||
+            memcmp(tally_before + CHILDBUS_TALLY_BYTES, t.tally + CHILDBUS_TALLY_BYTES, 2) != 0)
+            return differ("tally", turn);
         if (number > 1 ? memcmp(t.before, t.state, sizeof t.state) != 0
                        : !same_state(t.state, &t.plain_state) || memcmp(t.before + 340, t.state + 340, 4) != 0)
             return differ("state", turn);
@@ -408,7 +461,7 @@ bool agree(void)
     for (size_t turn = 0; turn < TURNS; turn++)
         if (!board_turn(turn) || !master_turn(turn))
             return false;
-    printf("Both sides agree on the inputs of all %zu jobs (after every call: number, output, state, flash) and on "
+    printf("Both sides agree on the inputs of all %zu jobs (after every call: number, output, state, flash, tally) and on "
            "%d random calls, refused ones among them.\n",
            job_count, TURNS * 17);
     return true;

@@ -13,7 +13,7 @@
 
 #define EACH_FRAME(bus, frame)                                                                                \
     {UPLOAD_FIRST, bus, frame, FLASH}, {UPLOAD_REPEATED, bus, frame, FLASH}, {READ_BACK, bus, frame, FLASH},  \
-        {ENCODE_WRITE, bus, frame, FLASH}, {DECODE_FULL, bus, frame, 500}
+        {ENCODE_WRITE, bus, frame, FLASH}, {DECODE_FULL, bus, frame, 500}, {UPLOAD_TALLY, bus, frame, FLASH}
 
 const struct job job_list[] = {
     EACH_FRAME(PLAIN_I2C, 32),
@@ -27,6 +27,8 @@ const struct job job_list[] = {
     {DECODE_SHORT, PLAIN_I2C, 256, 2000},
     {DECODE_SHORT, PLAIN_RS485, 256, 2000},
     {TWO_READS, PLAIN_I2C, 256, 500},
+    {DROPPED, PLAIN_RS485, 32, 2000},
+    {DROPPED, PLAIN_RS485, 256, 2000},
     GROWTH(PLAIN_I2C, 32),
     GROWTH(PLAIN_I2C, 256),
     GROWTH(PLAIN_RS485, 32),
@@ -45,8 +47,9 @@ static volatile size_t sink;
 
 const char *kind_name(enum kind kind)
 {
-    static const char *const names[] = {"upload-first", "upload-repeated", "read-back",    "read-reply", "encode-write",
-                                        "encode-short", "decode-full",     "decode-short", "two-reads"};
+    static const char *const names[] = {"upload-first", "upload-repeated", "upload-tally", "dropped",
+                                        "read-back",    "read-reply",      "encode-write", "encode-short",
+                                        "decode-full",  "decode-short",    "two-reads"};
     return names[kind];
 }
 
@@ -89,6 +92,20 @@ static void add_reply(const struct job *job, uint32_t code, uint32_t a, uint32_t
     must(plain_receive(&boards.plain_profile, &boards.plain_state, ADDRESS, frame, len, boards.flash[PLAIN], FLASH,
                        pool + pool_len, 256, &in->len) == 0);
     pool_len += in->len;
+}
+
+/* Adds a frame of len bytes to an address: zeros, and a right check sum that is then damaged or not. */
+static void add_dropped(size_t len, uint8_t address, uint8_t damage)
+{
+    uint8_t *frame = pool + pool_len;
+    inputs[input_count++] = (struct input){0, 0, 0, pool_len, len};
+    must(input_count <= sizeof inputs / sizeof inputs[0] && pool_len + len <= sizeof pool);
+    memset(frame, 0, len);
+    frame[0] = address;
+    uint16_t crc = plain_crc16(frame, len - 2);
+    frame[len - 2] = (uint8_t)crc;
+    frame[len - 1] = (uint8_t)(crc >> 8) ^ damage;
+    pool_len += len;
 }
 
 static void put32(uint8_t *out, uint32_t value)
@@ -138,6 +155,7 @@ void make_inputs(const struct job *job)
     switch (job->kind) {
     case UPLOAD_FIRST:
     case UPLOAD_REPEATED:
+    case UPLOAD_TALLY:
     case ENCODE_WRITE:
         for (uint32_t at = 0; at < job->amount; at += data_max) {
             uint32_t n = job->amount - at < data_max ? job->amount - at : data_max;
@@ -148,6 +166,13 @@ void make_inputs(const struct job *job)
         }
         if (job->kind != ENCODE_WRITE)
             add_frame(job, 0x07, 0, 0, image, 0);
+        break;
+    case DROPPED: /* in the order of their numbers */
+        add_dropped(3, ADDRESS, 0);
+        add_dropped(job->frame + 1, ADDRESS, 0);
+        add_dropped(job->frame, ADDRESS, 1);
+        add_dropped(job->frame, ADDRESS + 8, 0);
+        must(input_count == DROPS);
         break;
     case READ_BACK:
         for (uint32_t at = 0; at < job->amount; at += read_max)
@@ -205,6 +230,44 @@ static size_t board_plain(const struct job *job)
         size_t made;
         sum += plain_receive(&boards.plain_profile, &boards.plain_state, ADDRESS, pool + inputs[i].at, inputs[i].len,
                              boards.flash[PLAIN], FLASH, boards.out[PLAIN], job->frame, &made);
+        sum += made;
+    }
+    return sum;
+}
+
+/* The call number i of a job by the calls that count: its frame. */
+static const struct input *counted_input(const struct job *job, size_t i)
+{
+    return &inputs[job->kind == DROPPED ? i % DROPS : i];
+}
+
+static size_t counted_calls(const struct job *job)
+{
+    return job->kind == DROPPED ? job->amount : input_count;
+}
+
+static size_t tally_library(const struct job *job)
+{
+    size_t sum = 0;
+    for (size_t i = 0; i < counted_calls(job); i++) {
+        const struct input *in = counted_input(job, i);
+        size_t made;
+        sum += childbus_receive_tally(boards.profile, sizeof boards.profile, boards.state, sizeof boards.state, ADDRESS,
+                                      pool + in->at, in->len, boards.flash[LIBRARY], FLASH, boards.out[LIBRARY],
+                                      job->frame, boards.tally, sizeof boards.tally, &made);
+        sum += made;
+    }
+    return sum;
+}
+
+static size_t tally_plain(const struct job *job)
+{
+    size_t sum = 0;
+    for (size_t i = 0; i < counted_calls(job); i++) {
+        const struct input *in = counted_input(job, i);
+        size_t made;
+        sum += plain_receive_tally(&boards.plain_profile, &boards.plain_state, ADDRESS, pool + in->at, in->len,
+                                   boards.flash[PLAIN], FLASH, boards.out[PLAIN], job->frame, &boards.plain_tally, &made);
         sum += made;
     }
     return sum;
@@ -316,6 +379,10 @@ void run_job(const struct job *job, enum side side)
     case READ_BACK:
         sink = side == LIBRARY ? board_library(job) : board_plain(job);
         break;
+    case UPLOAD_TALLY:
+    case DROPPED:
+        sink = side == LIBRARY ? tally_library(job) : tally_plain(job);
+        break;
     case READ_REPLY:
         sink = side == LIBRARY ? read_library(job) : read_plain(job);
         break;
@@ -336,10 +403,13 @@ void run_job(const struct job *job, enum side side)
 void set_up(const struct job *job, enum side side)
 {
     memset(boards.out[side], 0xa5, sizeof boards.out[side]);
-    if (side == LIBRARY)
+    if (side == LIBRARY) {
         must(childbus_fresh(boards.state, sizeof boards.state) == 0);
-    else
+        memset(boards.tally, 0, sizeof boards.tally);
+    } else {
         plain_fresh(&boards.plain_state);
+        boards.plain_tally = (struct plain_tally){0};
+    }
     if (job->kind == READ_BACK || job->kind == READ_REPLY)
         memcpy(boards.flash[side], image, FLASH);
     else

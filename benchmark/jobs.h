@@ -9,6 +9,8 @@ enum side { LIBRARY, PLAIN, SIDES };
 enum kind {
     UPLOAD_FIRST,    /* the board receives the writes and a finalize; flash all 0xFF before */
     UPLOAD_REPEATED, /* the same upload once more: no page changes */
+    UPLOAD_TALLY,    /* the first upload, each frame counted in the tally */
+    DROPPED,         /* RS485 frames that get silence, counted: of 3 bytes, of M + 1, and of M damaged and foreign, in turn */
     READ_BACK,       /* the board receives the reads of what was uploaded */
     READ_REPLY,      /* I2C reads of a kept reply of `frame` bytes */
     ENCODE_WRITE,    /* the master makes the writes of an upload */
@@ -35,13 +37,15 @@ struct input {
 struct boards {
     uint8_t profile[36];
     uint8_t state[340];
+    uint8_t tally[10];
     struct plain_profile plain_profile;
     struct plain_state plain_state;
+    struct plain_tally plain_tally;
     uint8_t flash[SIDES][65472];
     uint8_t out[SIDES][256];
 };
 
-enum { ADDRESS = 8, FLASH = 65472 };
+enum { ADDRESS = 8, FLASH = 65472, DROPS = 4 };
 
 extern struct boards boards;
 extern struct input inputs[];

@@ -3,6 +3,9 @@
 
 #include <string.h>
 
+/* Why an RS485 frame got silence. */
+enum { FRAME_SHORT = 15, FRAME_LONG = 16, FRAME_CRC_WRONG = 17, FRAME_FOREIGN = 18 };
+
 enum { OK = 0, NOT_SUPPORTED = 2, INVALID_TRANSFER = 3, INVALID_CRC = 4, INVALID_ARGUMENTS = 5 };
 
 enum {
@@ -310,9 +313,16 @@ uint32_t plain_receive(const struct plain_profile *p, struct plain_state *s, uin
             return send(p, s, 0, INVALID_CRC, 0, out, made);
         body_len -= 1;
     } else {
-        if (frame_len < 4 || frame_len > p->longest || !hears(p, s, frame[0]) ||
-            !sealed(PLAIN_RS485, frame, frame_len - 2))
+        if (frame_len < 4)
+            return FRAME_SHORT;
+        if (frame_len > p->longest)
+            return FRAME_LONG;
+        if (!sealed(PLAIN_RS485, frame, frame_len - 2))
+            return FRAME_CRC_WRONG;
+        if (frame[0] == 0) /* another general call */
             return 1;
+        if (!hears(p, s, frame[0]))
+            return FRAME_FOREIGN;
         address = frame[0];
         body += 1;
         body_len -= 3;
@@ -326,6 +336,23 @@ uint32_t plain_receive(const struct plain_profile *p, struct plain_state *s, uin
         return 1;
     }
     return send(p, s, (uint8_t)address, status, results_len, out, made);
+}
+
+uint32_t plain_receive_tally(const struct plain_profile *p, struct plain_state *s, uint32_t address, const uint8_t *frame,
+                             size_t frame_len, uint8_t *flash, size_t flash_len, uint8_t *out, size_t out_len,
+                             struct plain_tally *tally, size_t *made)
+{
+    uint32_t number = plain_receive(p, s, address, frame, frame_len, flash, flash_len, out, out_len, made);
+    uint16_t *counter;
+    if (number == 0)
+        counter = &tally->answered;
+    else if (number >= FRAME_SHORT)
+        counter = &tally->dropped[number - FRAME_SHORT];
+    else
+        return number;
+    if (*counter < 65535)
+        ++*counter;
+    return number;
 }
 
 uint32_t plain_read(const struct plain_profile *p, const struct plain_state *s, uint32_t address, size_t flash_len,
@@ -474,6 +501,8 @@ uint32_t plain_version(uint32_t major, uint32_t minor, uint32_t *known_major, ui
 {
     *known_major = 0;
     *known_minor = 0;
+    if (major == 0 && minor == 0)
+        return 40; /* an application answers */
     if (major != 1 && major != 2)
         return 14;
     *known_major = major;

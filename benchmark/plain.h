@@ -1,6 +1,6 @@
 /*
  * A board and a master of the Childbus bootloader protocol in plain C: what the library is measured against.
- * Same rules and same numbers (0 to 14) as childbus.h; profile and state are structs. Check sums by half bytes.
+ * Same rules and same numbers as childbus.h; profile, state and tally are structs. Check sums by half bytes.
  */
 #ifndef PLAIN_H
 #define PLAIN_H
@@ -38,6 +38,12 @@ struct plain_state {
     uint8_t reply[PLAIN_FRAME_MAX];
 };
 
+/* Received frames answered 15, 16, 17, 18 and 0; each counter stops at 65535. */
+struct plain_tally {
+    uint16_t dropped[4];
+    uint16_t answered;
+};
+
 uint8_t plain_crc8(const uint8_t *bytes, size_t len);
 uint16_t plain_crc16(const uint8_t *bytes, size_t len);
 
@@ -45,6 +51,11 @@ void plain_fresh(struct plain_state *s);
 
 uint32_t plain_receive(const struct plain_profile *p, struct plain_state *s, uint32_t address, const uint8_t *frame,
                        size_t frame_len, uint8_t *flash, size_t flash_len, uint8_t *out, size_t out_len, size_t *made);
+
+/* The same, counted in the tally. */
+uint32_t plain_receive_tally(const struct plain_profile *p, struct plain_state *s, uint32_t address, const uint8_t *frame,
+                             size_t frame_len, uint8_t *flash, size_t flash_len, uint8_t *out, size_t out_len,
+                             struct plain_tally *tally, size_t *made);
 
 uint32_t plain_read(const struct plain_profile *p, const struct plain_state *s, uint32_t address, size_t flash_len,
                     uint8_t *out, size_t out_len, size_t *made);

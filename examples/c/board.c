@@ -11,10 +11,11 @@ static void put32(uint8_t *out, uint32_t value)
         out[i] = (uint8_t)(value >> 8 * i);
 }
 
-/* Numbers from 2 on mean that the firmware itself is wrong: its profile, its buffers or its state. */
+/* 2 to 5 mean that the firmware itself is wrong: its profile, its buffers or its state. 15 to 18 don't: frames that are cut, damaged
+ * or meant for another board are everyday silence on a shared line, like 1. */
 static void stop_if_refused(uint32_t number)
 {
-    if (number > CHILDBUS_NOTHING) {
+    if (number != CHILDBUS_MADE && !childbus_silent(number)) {
         fprintf(stderr, "board: refused with number %u\n", (unsigned)number);
         exit(1);
     }
@@ -39,16 +40,17 @@ void board_power_up(struct board *board, uint32_t bus)
 
     memset(board->flash, 0xb0, BOARD_OFFSET); /* the bootloader */
     memset(board->flash + BOARD_OFFSET, 0xff, BOARD_SIZE);
+    memset(board->tally, 0, sizeof board->tally);
     stop_if_refused(childbus_fresh(board->state, sizeof board->state));
 }
 
 size_t board_frame(struct board *board, uint32_t address, const uint8_t *frame, size_t len)
 {
     size_t made;
-    uint32_t number = childbus_receive(board->profile, sizeof board->profile, board->state, sizeof board->state, address,
-                                       frame, len, board->flash, sizeof board->flash, board->reply, sizeof board->reply,
-                                       &made);
-    stop_if_refused(number);
+    board->number = childbus_receive_tally(board->profile, sizeof board->profile, board->state, sizeof board->state,
+                                           address, frame, len, board->flash, sizeof board->flash, board->reply,
+                                           sizeof board->reply, board->tally, sizeof board->tally, &made);
+    stop_if_refused(board->number);
     return board->profile[CHILDBUS_PROFILE_BUS] == CHILDBUS_RS485 ? made : 0;
 }
 
@@ -59,6 +61,11 @@ size_t board_read(struct board *board, uint32_t address)
                                     board->flash, sizeof board->flash, board->reply, sizeof board->reply, &made);
     stop_if_refused(number);
     return made;
+}
+
+unsigned board_counter(const struct board *board, size_t counter)
+{
+    return board->tally[counter] | (unsigned)board->tally[counter + 1] << 8;
 }
 
 int board_running(const struct board *board)

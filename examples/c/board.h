@@ -12,6 +12,8 @@ struct board {
     uint8_t state[CHILDBUS_STATE_BYTES];
     uint8_t flash[BOARD_OFFSET + BOARD_SIZE];
     uint8_t reply[BOARD_LONGEST];
+    uint8_t tally[CHILDBUS_TALLY_BYTES]; /* for the service screen; cleared at power-up, and by no reset */
+    uint32_t number;                     /* what the library answered to the last frame */
 };
 
 /* Power-up on a bus (CHILDBUS_I2C or CHILDBUS_RS485), with empty flash behind the bootloader. */
@@ -23,6 +25,9 @@ size_t board_frame(struct board *board, uint32_t address, const uint8_t *frame, 
 
 /* I2C: the master reads at address. Answers how many bytes of board->reply it gets. */
 size_t board_read(struct board *board, uint32_t address);
+
+/* A counter of the tally: CHILDBUS_TALLY_SHORT to CHILDBUS_TALLY_ANSWERED. */
+unsigned board_counter(const struct board *board, size_t counter);
 
 /* The application has been started. */
 int board_running(const struct board *board);

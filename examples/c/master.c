@@ -1,7 +1,8 @@
 /*
  * An example master over childbus.h, and the program: on each bus it finds the board, gives it an address, tries a reserved
- * one, uploads an image, finalizes, reads it back, compares, uploads once more, and starts the application. Master and board
- * share nothing but the bytes on the bus, which are `exchange` below. Ends with status 0 if all went as it should.
+ * one, uploads an image, finalizes, reads it back, compares, uploads once more, sends frames that get no reply, and starts the
+ * application. Master and board share nothing but the bytes on the bus, which are `exchange` below; the board's numbers and its
+ * tally are shown as a service screen would. Ends with status 0 if all went as it should.
  */
 #include <stdbool.h>
 #include <stdio.h>
@@ -154,6 +155,41 @@ static void leave_application(struct master *master)
     printf("  version %u.%u: the application runs; reset, then version %u.%u\n", (unsigned)major, (unsigned)minor, r[0], r[1]);
 }
 
+/* A frame that gets no reply, on RS485, and the board's number for it. */
+static void no_reply(struct master *master, const char *name, const uint8_t *frame, size_t len, uint32_t number)
+{
+    if (exchange(master, CHILDBUS_GENERAL_CALL, frame, len) != 0 || master->board->number != number)
+        fail("another silence was expected");
+    printf("  %s: no reply, number %u\n", name, (unsigned)number);
+}
+
+/* Version requests that the board drops: cut, too long, damaged, and for another board. On I2C the first three are answered,
+ * by INVALID_TRANSFER and INVALID_CRC. */
+static void show_silences(struct master *master)
+{
+    static const uint8_t none[1];
+    uint8_t frame[BOARD_LONGEST + 1] = {0}, other[CHILDBUS_FRAME_MAX];
+    size_t len, other_len;
+
+    if (childbus_encode(master->bus, master->longest, CHILDBUS_CMD_VERSION, ADDRESS, 0, 0, none, 0, frame, sizeof frame,
+                        &len) != CHILDBUS_MADE ||
+        childbus_encode(master->bus, master->longest, CHILDBUS_CMD_VERSION, ADDRESS + 1, 0, 0, none, 0, other,
+                        sizeof other, &other_len) != CHILDBUS_MADE)
+        fail("the request can't be made");
+    no_reply(master, "frame cut after 3 bytes", frame, 3, CHILDBUS_FRAME_SHORT);
+    no_reply(master, "frame of M + 1 bytes", frame, master->longest + 1, CHILDBUS_FRAME_LONG);
+    frame[len - 1] ^= 1;
+    no_reply(master, "damaged frame", frame, len, CHILDBUS_FRAME_CRC_WRONG);
+    no_reply(master, "frame for another board", other, other_len, CHILDBUS_FRAME_FOREIGN);
+}
+
+static void show_tally(const struct board *board)
+{
+    printf("  tally: short %u, long %u, CRC %u, foreign %u, answered %u\n", board_counter(board, CHILDBUS_TALLY_SHORT),
+           board_counter(board, CHILDBUS_TALLY_LONG), board_counter(board, CHILDBUS_TALLY_CRC),
+           board_counter(board, CHILDBUS_TALLY_FOREIGN), board_counter(board, CHILDBUS_TALLY_ANSWERED));
+}
+
 static void run_master(struct board *board, uint32_t bus, const uint8_t *image)
 {
     struct master master = {.board = board, .bus = bus, .longest = CHILDBUS_FRAME_MIN};
@@ -193,13 +229,17 @@ static void run_master(struct board *board, uint32_t bus, const uint8_t *image)
 
     /* a damaged frame: INVALID_CRC on I2C, silence on RS485 */
     static const uint8_t none[1];
-    if (childbus_encode(bus, master.longest, CHILDBUS_CMD_VERSION, ADDRESS, 0, 0, none, 0, request, sizeof request, &len) != CHILDBUS_MADE)
-        fail("the request can't be made");
-    request[len - 1] ^= 1;
-    size_t got = exchange(&master, ADDRESS, request, len);
-    if (bus == CHILDBUS_I2C ? got != 3 || master.reply[0] != CHILDBUS_INVALID_CRC : got != 0)
-        fail("a damaged frame was taken");
-    printf("  damaged frame: %s\n", bus == CHILDBUS_I2C ? "status INVALID_CRC" : "no reply");
+    if (bus == CHILDBUS_RS485) {
+        show_silences(&master);
+    } else {
+        if (childbus_encode(bus, master.longest, CHILDBUS_CMD_VERSION, ADDRESS, 0, 0, none, 0, request, sizeof request,
+                            &len) != CHILDBUS_MADE)
+            fail("the request can't be made");
+        request[len - 1] ^= 1;
+        if (exchange(&master, ADDRESS, request, len) != 3 || master.reply[0] != CHILDBUS_INVALID_CRC)
+            fail("a damaged frame was taken");
+        printf("  damaged frame: status INVALID_CRC\n");
+    }
 
     /* start has no reply */
     if (childbus_encode(bus, master.longest, CHILDBUS_CMD_START, ADDRESS, 0, 0, none, 0, request, sizeof request, &len) != CHILDBUS_MADE ||
@@ -215,6 +255,7 @@ static void run_master(struct board *board, uint32_t bus, const uint8_t *image)
             fail("flash behind the image was changed");
     printf("  flash outside the image: unchanged\n");
     leave_application(&master);
+    show_tally(board); /* the reset has not cleared it */
 }
 
 int main(void)

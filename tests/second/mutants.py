@@ -16,12 +16,13 @@ import tempfile
 from concurrent.futures import ThreadPoolExecutor
 
 HERE = os.path.dirname(os.path.abspath(__file__))
-RULES = ["model", "sums", "board", "master", "script", "ledger", "check", "rng", "total", "bits", "half_bytes", "running"]
+RULES = ["model", "sums", "tally", "board", "master", "script", "ledger", "check", "rng", "total", "bits", "half_bytes", "running",
+         "silences"]
 SECONDS = 60
 WORKERS = 2
 
 ANSWER_MAIN = """#![allow(dead_code)]
-mod board; mod master; mod model; mod script; mod sums;
+mod board; mod master; mod model; mod script; mod sums; mod tally;
 use std::io::{Read, Write};
 fn main() {
     let mut text = Vec::new();
@@ -32,7 +33,8 @@ fn main() {
 }
 """
 CHECK_MAIN = """#![allow(dead_code)]
-mod bits; mod board; mod half_bytes; mod ledger; mod check; mod master; mod model; mod rng; mod running; mod sums; mod total;
+mod bits; mod board; mod half_bytes; mod ledger; mod check; mod master; mod model; mod rng; mod running; mod silences; mod sums;
+mod tally; mod total;
 fn main() {
     if let Err(message) = check::all(3000, 3) {
         println!("{message}");
@@ -91,14 +93,8 @@ MUTANTS = [
     ("board", "I2C frame of one byte", "frame.len() < 2 ||", "frame.is_empty() ||"),
     ("board", "I2C frame of M + 1", "frame.len() < 2 || frame.len() > p.m as usize",
      "frame.len() < 2 || frame.len() > p.m as usize + 1"),
-    ("board", "RS485 frame of M refused", "frame.len() < 4 || frame.len() > p.m as usize",
-     "frame.len() < 4 || frame.len() >= p.m as usize"),
-    ("board", "RS485 frame of M + 1", "frame.len() < 4 || frame.len() > p.m as usize",
-     "frame.len() < 4 || frame.len() > p.m as usize + 1"),
-    ("board", "RS485 frame of three bytes", "frame.len() < 4 ||", "frame.len() < 3 ||"),
-    ("board", "INVALID_CRC on RS485",
-     "    if !crc16_right(frame) || !hears(s, frame[0]) {\n        return Verdict::Ignored;",
-     "    if hears(s, frame[0]) && !crc16_right(frame) {\n        return Verdict::BadCrc;\n    }\n    if !hears(s, frame[0]) {\n        return Verdict::Ignored;"),
+    ("board", "INVALID_CRC on RS485", "        return Verdict::Dropped(FRAME_CRC);",
+     "        return if hears(s, frame[0]) { Verdict::BadCrc } else { Verdict::Dropped(FRAME_CRC) };"),
     ("board", "CRC before length on I2C",
      "    if frame.len() < 2 || frame.len() > p.m as usize {\n        return Verdict::BadTransfer;\n    }\n    if !crc8_right(frame) {\n        return Verdict::BadCrc;\n    }",
      "    if !crc8_right(frame) {\n        return Verdict::BadCrc;\n    }\n    if frame.len() < 2 || frame.len() > p.m as usize {\n        return Verdict::BadTransfer;\n    }"),
@@ -441,6 +437,154 @@ RUNNING = [
      "{ let made = lay(&general_bytes(bus, 0x06), out);\n            out[made.len..].fill(0);\n            made }"),
 ]
 
+# why a frame got silence: the four tests in their order, what stands before them, and the tally
+def dropped(condition, number):
+    return "    if %s {\n        return Verdict::Dropped(%s);\n    }\n" % (condition, number)
+
+
+SHORT = dropped("frame.len() < 4", "FRAME_SHORT")
+LONG = dropped("frame.len() > p.m as usize", "FRAME_LONG")
+CRC = dropped("!crc16_right(frame)", "FRAME_CRC")
+GENERAL = "    if frame[0] == 0 {\n        return Verdict::Ignored;\n    }\n"
+FOREIGN = dropped("!hears(s, frame[0])", "FRAME_FOREIGN")
+RUNNING_TEST = "    if s.running {\n        return Verdict::Ignored;\n    }\n"
+RESET_TEST = "    if general == Some(6) {\n        return Verdict::Reset;\n    }\n"
+REFUSAL_TEST = "    if let Some(number) = refusal(p, s, flash.len(), out.len()) {\n        return Answer::only(number);\n    }\n"
+LEFT = "        Verdict::Dropped(number) => Answer::only(number),"
+COUNT = "    tally.count(answer.number);\n"
+STOP = "        if *counter < 65_535 {\n            *counter += 1;\n        }\n"
+PLAIN_CALL = "        self.board_call('R', |p, s, flash, out| board::receive(p, s, flash, out, address, &frame))"
+READ_CALL = "        self.board_call('I', |p, s, flash, out| board::read(p, s, flash, out, address))"
+TALLIED = "        self.tally = tally;\n        Ok(format!"
+
+
+def counted(condition, change):
+    """The change of what is counted: under a condition something else happens."""
+    return COUNT, "    if %s {\n        %s\n        return answer;\n    }\n%s" % (condition, change, COUNT)
+
+
+SILENCES = [
+    # the limits
+    ("board", "short: three bytes are a frame", "frame.len() < 4 {", "frame.len() < 3 {"),
+    ("board", "short: four bytes are short", "frame.len() < 4 {", "frame.len() < 5 {"),
+    ("board", "short: an empty frame is not", "frame.len() < 4 {", "!frame.is_empty() && frame.len() < 4 {"),
+    ("board", "long: a frame of M is long", dropped("frame.len() > p.m as usize", "FRAME_LONG"),
+     dropped("frame.len() >= p.m as usize", "FRAME_LONG")),
+    ("board", "long: a frame of M + 1 is not", LONG, dropped("frame.len() > p.m as usize + 1", "FRAME_LONG")),
+    ("board", "long: only over 256", LONG, dropped("frame.len() > 256", "FRAME_LONG")),
+    ("board", "long: only with a right CRC", LONG, dropped("frame.len() > p.m as usize && crc16_right(frame)", "FRAME_LONG")),
+    ("board", "long: length in one byte", LONG, dropped("(frame.len() as u8) as usize > p.m as usize", "FRAME_LONG")),
+    # the numbers
+    ("board", "15 is 16", "FRAME_SHORT);", "FRAME_LONG);"),
+    ("board", "16 is 15", "FRAME_LONG);", "FRAME_SHORT);"),
+    ("board", "17 is 18", "FRAME_CRC);", "FRAME_FOREIGN);"),
+    ("board", "18 is 17", "FRAME_FOREIGN);", "FRAME_CRC);"),
+    ("tally", "17 and 18 exchanged", "FRAME_CRC: u8 = 17;\npub const FRAME_FOREIGN: u8 = 18;",
+     "FRAME_CRC: u8 = 18;\npub const FRAME_FOREIGN: u8 = 17;"),
+    ("board", "15 still 1", "Verdict::Dropped(FRAME_SHORT)", "Verdict::Ignored"),
+    ("board", "16 still 1", "Verdict::Dropped(FRAME_LONG)", "Verdict::Ignored"),
+    ("board", "17 still 1", "Verdict::Dropped(FRAME_CRC)", "Verdict::Ignored"),
+    ("board", "18 still 1", "Verdict::Dropped(FRAME_FOREIGN)", "Verdict::Ignored"),
+    # their order
+    ("board", "CRC before short", SHORT + LONG + CRC, CRC + SHORT + LONG),
+    ("board", "CRC before long", LONG + CRC, CRC + LONG),
+    ("board", "foreign before CRC", CRC + GENERAL + FOREIGN,
+     dropped("frame[0] != 0 && !hears(s, frame[0])", "FRAME_FOREIGN") + CRC + GENERAL),
+    ("board", "foreign before long", LONG + CRC + GENERAL + FOREIGN,
+     dropped("frame[0] != 0 && !hears(s, frame[0])", "FRAME_FOREIGN") + LONG + CRC + GENERAL),
+    ("board", "foreign before short", SHORT,
+     dropped("frame.first().is_some_and(|&to| to != 0 && !hears(s, to))", "FRAME_FOREIGN") + SHORT),
+    ("board", "0 is foreign", GENERAL, ""),
+    ("board", "any frame to 0 is 1", SHORT, SHORT + GENERAL),
+    ("board", "0 is foreign to a board at 0", GENERAL, dropped("frame[0] == 0 && s.own != Own::Address(0)", "1")),
+    ("board", "a board at 0 takes commands to 0", GENERAL,
+     "    if frame[0] == 0 {\n        return if s.own == Own::Address(0) { Verdict::Command } else { Verdict::Ignored };\n    }\n"),
+    ("board", "damaged general calls are 1", CRC,
+     "    if frame[0] == 0 && !crc16_right(frame) {\n        return Verdict::Ignored;\n    }\n" + CRC),
+    # running and the general calls come first
+    ("board", "reasons while running", RUNNING_TEST,
+     "    if s.running && p.bus == Bus::Rs485 && general.is_none() {\n"
+     "        let idle = State { running: false, ..s.clone() };\n"
+     "        return match verdict_rs485(p, &idle, frame) {\n"
+     "            Verdict::Command => Verdict::Ignored,\n            other => other,\n        };\n    }\n" + RUNNING_TEST),
+    ("board", "foreign while running", RUNNING_TEST,
+     "    if s.running && p.bus == Bus::Rs485 && frame.len() > 3 && crc16_right(frame) && frame[0] != 0 && !hears(s, frame[0]) {\n"
+     "        return Verdict::Dropped(FRAME_FOREIGN);\n    }\n" + RUNNING_TEST),
+    ("board", "short while running", RUNNING_TEST,
+     dropped("s.running && p.bus == Bus::Rs485 && frame.len() < 4", "FRAME_SHORT") + RUNNING_TEST),
+    ("board", "damaged reset while running is 17", RESET_TEST,
+     "    if s.running && p.bus == Bus::Rs485 && frame.starts_with(&[0, 0x46]) && general.is_none() {\n"
+     "        return Verdict::Dropped(FRAME_CRC);\n    }\n" + RESET_TEST),
+    ("board", "reasons before 2 to 5", REFUSAL_TEST + "    match",
+     "    if p.bus == Bus::Rs485 && frame.len() < 4 && !s.running {\n        return Answer::only(FRAME_SHORT);\n    }\n"
+     + REFUSAL_TEST + "    match"),
+    # what they leave
+    ("board", "a dropped frame drops waiting bytes", LEFT,
+     "        Verdict::Dropped(number) => {\n            s.w = 0;\n            Answer::only(number)\n        }"),
+    ("board", "a foreign frame sends home", LEFT,
+     "        Verdict::Dropped(number) => {\n            s.own = if number == FRAME_FOREIGN { Own::DefaultRange } else { s.own };\n"
+     "            Answer::only(number)\n        }"),
+    ("board", "a dropped frame touches the output", LEFT,
+     "        Verdict::Dropped(number) => {\n            out[0] = number;\n            Answer::only(number)\n        }"),
+    # I2C has none of them
+    ("board", "short on I2C", "    if frame.len() < 2 ||", dropped("frame.is_empty()", "FRAME_SHORT") + "    if frame.len() < 2 ||"),
+    ("board", "foreign on I2C", "    if !hears_i2c(s, address) {\n        return Verdict::Ignored;",
+     "    if !hears_i2c(s, address) {\n        return if address == 0 { Verdict::Ignored } else { Verdict::Dropped(FRAME_FOREIGN) };"),
+    # the counters
+    ("tally", "counters wrap", STOP, "        *counter = counter.wrapping_add(1);\n"),
+    ("tally", "counters stop at 65534", "*counter < 65_535", "*counter < 65_534"),
+    ("tally", "counters stop at 255", "*counter < 65_535", "*counter < 255"),
+    ("tally", "counters start anew at their end", STOP, STOP + "        if *counter == 65_535 {\n            *counter = 0;\n        }\n"),
+    ("tally", "counters rise by two", "*counter += 1;", "*counter = counter.saturating_add(2);"),
+    ("tally", "short and long counted the other way", "FRAME_SHORT => &mut self.short,\n            FRAME_LONG => &mut self.long,",
+     "FRAME_SHORT => &mut self.long,\n            FRAME_LONG => &mut self.short,"),
+    ("tally", "CRC counted as foreign", "FRAME_CRC => &mut self.crc,", "FRAME_CRC => &mut self.foreign,"),
+    ("tally", "foreign not counted", "            FRAME_FOREIGN => &mut self.foreign,\n", ""),
+    ("tally", "answered not counted", "            0 => &mut self.answered,\n", ""),
+    ("tally", "1 counted as answered", "            0 => &mut self.answered,", "            0 | 1 => &mut self.answered,"),
+    ("tally", "refused counted as answered", "            0 => &mut self.answered,", "            0 | 2..=5 => &mut self.answered,"),
+    ("tally", "full counter stops the others", "        let counter = match",
+     "        if self.counters().contains(&65_535) {\n            return;\n        }\n        let counter = match"),
+    ("tally", "written in another order", "[self.short, self.long, self.crc, self.foreign, self.answered]",
+     "[self.short, self.long, self.foreign, self.crc, self.answered]"),
+    # what is counted
+    ("board", "reset clears the tally",
+     *counted("general_call(p.bus, address, frame) == Some(6) && answer.number == 1", "*tally = Tally::default();")),
+    ("board", "reset address clears the tally",
+     *counted("general_call(p.bus, address, frame) == Some(4) && answer.number == 1", "*tally = Tally::default();")),
+    ("board", "start clears the tally", *counted("s.running", "*tally = Tally::default();")),
+    ("board", "while running answered is counted", *counted("s.running && answer.number == 1", "tally.count(0);")),
+    ("board", "I2C drop counted as foreign", *counted("p.bus == Bus::I2c && answer.number == 1", "tally.count(FRAME_FOREIGN);")),
+    ("board", "I2C general call counted", *counted("p.bus == Bus::I2c && address == 0 && answer.number == 1", "tally.count(0);")),
+    ("board", "I2C nothing counted", *counted("p.bus == Bus::I2c", "")),
+    ("board", "I2C bad transfer counted as short",
+     *counted("p.bus == Bus::I2c && answer.number == 0 && frame.is_empty()", "tally.count(FRAME_SHORT);")),
+    ("board", "I2C wrong CRC counted as CRC",
+     *counted("p.bus == Bus::I2c && answer.number == 0 && out.first() == Some(&INVALID_CRC)", "tally.count(FRAME_CRC);")),
+    ("board", "refused commands not counted",
+     *counted("answer.number == 0 && out[usize::from(p.bus == Bus::Rs485)] != OK", "")),
+    ("board", "other general calls counted as foreign",
+     *counted("p.bus == Bus::Rs485 && answer.number == 1 && !s.running && frame.first() == Some(&0)", "tally.count(FRAME_FOREIGN);")),
+    # the lines of case files
+    ("script", "R counts", PLAIN_CALL,
+     "        let mut tally = self.tally;\n"
+     "        let line = self.board_call('R', |p, s, flash, out| board::receive_tally(p, s, flash, out, address, &frame, &mut tally))?;\n"
+     "        self.tally = tally;\n        Ok(line)"),
+    ("script", "I2C read counts as answered", READ_CALL,
+     "        let mut tally = self.tally;\n"
+     "        let line = self.board_call('I', |p, s, flash, out| {\n"
+     "            let answer = board::read(p, s, flash, out, address);\n            tally.count(answer.number);\n"
+     "            answer\n        })?;\n"
+     "        self.tally = tally;\n        Ok(line)"),
+    ("script", "C counts for its own line only", TALLIED, "        Ok(format!"),
+    ("script", "fresh state clears the tally", "        self.state = State::fresh();\n        Ok(())",
+     "        self.state = State::fresh();\n        self.tally = Tally::default();\n        Ok(())"),
+    ("script", "profile clears the tally", "        count_fields(f, 9)?;\n",
+     "        count_fields(f, 9)?;\n        self.tally = Tally::default();\n"),
+    ("script", "flash clears the tally", "        let len = number(\"length\", f[0], 131_072)?;\n",
+     "        let len = number(\"length\", f[0], 131_072)?;\n        self.tally = Tally::default();\n"),
+]
+
 # the check sums bit by bit: tried with the check
 BITS = [
     ("bits", "CRC-8 polynomial", "^ 0x07", "^ 0x31"),
@@ -486,6 +630,12 @@ CHECKED_TOO = [
     "reset: known version reset", "reset: unknown version answered 1", "reset address instead of reset", "reset of the other bus",
     "reset written though it doesn't fit",
     "reset not heard while running", "reset keeps own address", "reset keeps the last reply", "version 2.1",
+    "short: three bytes are a frame", "short: four bytes are short", "long: a frame of M is long", "long: a frame of M + 1 is not",
+    "17 and 18 exchanged", "CRC before short", "CRC before long", "foreign before CRC", "foreign before long", "0 is foreign",
+    "any frame to 0 is 1", "reasons while running", "a dropped frame drops waiting bytes", "a dropped frame touches the output",
+    "foreign on I2C", "counters wrap", "counters stop at 65534", "full counter stops the others", "refused counted as answered",
+    "1 counted as answered", "reset clears the tally", "I2C drop counted as foreign", "I2C nothing counted",
+    "refused commands not counted",
 ]
 
 
@@ -495,7 +645,7 @@ def situations(cases):
     for line in cases.split("\n"):
         if line.startswith("# "):
             current = line[2:]
-        elif line[:1] in ("R", "I", "E", "D", "T", "V", "A"):
+        elif line[:1] in ("R", "C", "I", "E", "D", "T", "V", "A"):
             names.append(current)
     return names
 
@@ -580,7 +730,7 @@ def unchanged_passes(folder, cases, expected):
 
 def try_all(folders, cases, expected):
     names = situations(cases)
-    rules = MUTANTS + RESERVED + HALF_BYTES + RUNNING
+    rules = MUTANTS + RESERVED + HALF_BYTES + RUNNING + SILENCES
     again = [m for m in rules if m[1] in CHECKED_TOO]
     assert len(again) == len(CHECKED_TOO)
     mutants = [("answer", mutant) for mutant in rules]

@@ -1,6 +1,7 @@
 /*
- * A board on a pseudo-terminal, over childbus.h. It writes the terminal's name on standard output and serves until standard
- * input ends. Each frame goes to standard error as `received BYTES answered BYTES`, or `silent` where nothing is sent.
+ * A board on a pseudo-terminal, over childbus.h: `board M`. It writes the terminal's name on standard output and serves until
+ * standard input ends. Each frame goes to standard error as `received BYTES answered BYTES`, or `silent NUMBER` where nothing is
+ * sent: 1, or 15 to 18, which say why. Its last line there is the tally.
  */
 #define _XOPEN_SOURCE 700
 #include <childbus.h>
@@ -16,16 +17,17 @@
 /* A pseudo-terminal has no line speed, and a busy machine cuts frames: far more than t3.5. */
 enum { SILENCE_MS = 100 };
 
-enum { LONGEST = 256, SIZE = 4096, OFFSET = 512 };
+enum { SIZE = 4096, OFFSET = 512 };
 
 static uint8_t profile[CHILDBUS_PROFILE_BYTES] = {
     CHILDBUS_RS485, 7, 1, 2, 3, 3, 0, 0,                 /* type 7, revisions 1 and 2, bootloader 3, serial of 3 bytes */
-    LONGEST & 0xff, LONGEST >> 8, 0, 0,                  /* M */
+    0, 0, 0, 0,                                          /* M: as main is told */
     SIZE & 0xff, SIZE >> 8, 0, 0,                        /* S */
     OFFSET & 0xff, OFFSET >> 8, 0, 0,                    /* O */
     'Q', 'R', 'S',
 };
 static uint8_t state[CHILDBUS_STATE_BYTES];
+static uint8_t tally[CHILDBUS_TALLY_BYTES];
 static uint8_t flash[OFFSET + SIZE];
 
 static void fail(const char *what)
@@ -41,13 +43,25 @@ static void log_bytes(const char *before, const uint8_t *bytes, size_t len)
         fprintf(stderr, " %02x", bytes[i]);
 }
 
+static unsigned counter(size_t at)
+{
+    return tally[at] | (unsigned)tally[at + 1] << 8;
+}
+
+static void log_tally(void)
+{
+    fprintf(stderr, "tally: short %u, long %u, CRC %u, foreign %u, answered %u\n", counter(CHILDBUS_TALLY_SHORT),
+            counter(CHILDBUS_TALLY_LONG), counter(CHILDBUS_TALLY_CRC), counter(CHILDBUS_TALLY_FOREIGN),
+            counter(CHILDBUS_TALLY_ANSWERED));
+}
+
 static void serve(int line, const uint8_t *frame, size_t len)
 {
-    uint8_t reply[LONGEST];
+    uint8_t reply[CHILDBUS_FRAME_MAX];
     size_t made;
-    uint32_t number = childbus_receive(profile, sizeof profile, state, sizeof state, 0, frame, len, flash, sizeof flash,
-                                       reply, sizeof reply, &made);
-    if (number > CHILDBUS_NOTHING) {
+    uint32_t number = childbus_receive_tally(profile, sizeof profile, state, sizeof state, 0, frame, len, flash, sizeof flash,
+                                             reply, sizeof reply, tally, sizeof tally, &made);
+    if (number != CHILDBUS_MADE && !childbus_silent(number)) {
         fprintf(stderr, "refused with number %u\n", (unsigned)number);
         exit(1);
     }
@@ -55,7 +69,7 @@ static void serve(int line, const uint8_t *frame, size_t len)
     if (number == CHILDBUS_MADE)
         log_bytes(" answered", reply, made);
     else
-        fprintf(stderr, " silent");
+        fprintf(stderr, " silent %u", (unsigned)number);
     fprintf(stderr, "\n");
     for (size_t sent = 0; sent < made;) {
         ssize_t n = write(line, reply + sent, made - sent);
@@ -65,8 +79,16 @@ static void serve(int line, const uint8_t *frame, size_t len)
     }
 }
 
-int main(void)
+int main(int argc, char **argv)
 {
+    unsigned long longest = argc == 2 ? strtoul(argv[1], NULL, 10) : 0;
+    if (longest < CHILDBUS_FRAME_MIN || longest > CHILDBUS_FRAME_MAX) {
+        fprintf(stderr, "usage: board M\n");
+        return 2;
+    }
+    profile[CHILDBUS_PROFILE_LONGEST] = (uint8_t)longest;
+    profile[CHILDBUS_PROFILE_LONGEST + 1] = (uint8_t)(longest >> 8);
+
     int line = posix_openpt(O_RDWR | O_NOCTTY);
     if (line < 0 || grantpt(line) != 0 || unlockpt(line) != 0)
         fail("pseudo-terminal");
@@ -113,8 +135,10 @@ int main(void)
         }
         if (ready > 0 && fds[1].revents) {
             char any;
-            if (read(STDIN_FILENO, &any, 1) <= 0)
+            if (read(STDIN_FILENO, &any, 1) <= 0) {
+                log_tally();
                 return 0;
+            }
         }
     }
 }

@@ -4,6 +4,7 @@
  * status 4 the form of the reply is the same. (Status 5 is a longer reply in Modbus, so there the bytes are read as they come.)
  *
  *   master TTY whole_run    every command, an upload with read back, silence, general calls
+ *   master TTY silences     frames that get silence, for each reason, from a board with M = 64
  *   master TTY written B..  finalizes and compares the first bytes of flash with B.. (hex)
  */
 #include <errno.h>
@@ -16,7 +17,7 @@
 #include <string.h>
 #include <unistd.h>
 
-enum { FIRST = 8, OWN = 20, IMAGE = 1500, DATA_MAX = 250, READ_MAX = 251 };
+enum { FIRST = 8, OWN = 20, IMAGE = 1500, DATA_MAX = 250, READ_MAX = 251, SMALL_M = 64 };
 
 static modbus_t *bus;
 static unsigned checks;
@@ -89,6 +90,21 @@ static void expect_raw(const char *step, const uint8_t *request, int len, const 
     checks++;
 }
 
+/* A request, with libmodbus's check sum, that gets no reply. */
+static void expect_none(const char *step, const uint8_t *request, int len)
+{
+    send_request(step, request, len);
+    expect_silence(step);
+}
+
+/* Bytes that libmodbus doesn't make, straight to the line; they get no reply. */
+static void expect_none_raw(const char *step, const uint8_t *bytes, size_t len)
+{
+    if (write(modbus_get_socket(bus), bytes, len) != (ssize_t)len)
+        fail(step, "write");
+    expect_silence(step);
+}
+
 #define BYTES(...) (const uint8_t[]){__VA_ARGS__}, sizeof(const uint8_t[]){__VA_ARGS__}
 
 static void upload(const uint8_t *image, unsigned erased)
@@ -129,37 +145,66 @@ static void whole_run(void)
     expect("unknown command", BYTES(FIRST, 0x46), BYTES(FIRST, 2, 0));
     expect_raw("write out of order", BYTES(FIRST, 0x06, 0, 1, 0x55), BYTES(FIRST, 5, 0, 0xf3, 0x52));
 
-    send_request("set address, another type", BYTES(FIRST, 0x01, OWN, 6));
-    expect_silence("set address, another type");
+    expect_none("set address, another type", BYTES(FIRST, 0x01, OWN, 6));
     expect_raw("set address, reserved", BYTES(FIRST, 0x01, 0, 7), BYTES(FIRST, 5, 0, 0xf3, 0x52));
     expect_raw("set address, reserved", BYTES(FIRST, 0x01, 248, 7), BYTES(FIRST, 5, 0, 0xf3, 0x52));
     expect("set address", BYTES(FIRST, 0x01, OWN, 7), BYTES(FIRST, 0, 0));
     expect("version, new address", BYTES(OWN, 0x00), BYTES(OWN, 0, 2, 2, 2));
-    send_request("foreign address", BYTES(FIRST, 0x00));
-    expect_silence("foreign address");
+    expect_none("foreign address", BYTES(FIRST, 0x00));
 
     upload(image, (IMAGE + 63) / 64);
     read_back(image);
     upload(image, 0);
 
-    /* a damaged version request: libmodbus makes right ones only, so its bytes go straight to the line */
-    if (write(modbus_get_socket(bus), (uint8_t[]){OWN, 0x00, 0x00, 0x00}, 4) != 4)
-        fail("damaged frame", "write");
-    expect_silence("damaged frame");
+    expect_none_raw("damaged frame", BYTES(OWN, 0x00, 0x00, 0x00));
     expect("version, after a damaged frame", BYTES(OWN, 0x00), BYTES(OWN, 0, 2, 2, 2));
 
-    send_request("general call: reset address", BYTES(0, 0x44));
-    expect_silence("general call: reset address");
+    expect_none("general call: reset address", BYTES(0, 0x44));
     expect("version, default range again", BYTES(FIRST, 0x00), BYTES(FIRST, 0, 2, 2, 2));
 
-    send_request("start", BYTES(FIRST, 0x05));
-    expect_silence("start");
-    send_request("version while running", BYTES(FIRST, 0x00));
-    expect_silence("version while running");
-    send_request("general call: reset", BYTES(0, 0x46));
-    expect_silence("general call: reset");
+    expect_none("start", BYTES(FIRST, 0x05));
+    expect_none("version while running", BYTES(FIRST, 0x00));
+    expect_none("general call: reset", BYTES(0, 0x46));
     expect("version, after the reset", BYTES(FIRST, 0x00), BYTES(FIRST, 0, 2, 2, 2));
     expect("flash is kept", BYTES(FIRST, 0x08, 0, 0, 4), BYTES(FIRST, 0, 4, image[0], image[1], image[2], image[3]));
+}
+
+/* tests/serial/run compares the board's numbers with these lines, in this order. */
+static void silences(void)
+{
+    /* a write: with MOST data bytes its frame has M bytes; the longest that libmodbus makes has 256 */
+    enum { MOST = SMALL_M - 6 };
+    uint8_t request[4 + DATA_MAX] = {FIRST, 0x06, 0, 0};
+    memset(request + 4, 0x33, DATA_MAX);
+
+    expect("version", BYTES(FIRST, 0x00), BYTES(FIRST, 0, 2, 2, 2));
+    expect_none("foreign, below the default range: 18", BYTES(7, 0x00));
+    expect_none("foreign, above it: 18", BYTES(16, 0x00));
+    expect_none("another general call: 1", BYTES(0, 0x00));
+    expect("write, M bytes", request, 4 + MOST, BYTES(FIRST, 0, 0));
+    expect_none("write, M + 1 bytes: 16", request, 4 + MOST + 1);
+    expect_none("write, 256 bytes: 16", request, sizeof request);
+    request[0] = 30;
+    expect_none("write, M + 1 bytes, foreign: 16", request, 4 + MOST + 1);
+    expect_none("write, M bytes, foreign: 18", request, 4 + MOST);
+    expect_none_raw("wrong check sum: 17", BYTES(FIRST, 0x00, 0x06, 0x71));
+    expect_none_raw("wrong check sum, foreign: 17", BYTES(30, 0x00, 0x00, 0x00));
+    expect_none_raw("damaged reset: 17", BYTES(0, 0x46, 0x80, 0x43));
+    expect_none_raw("one byte: 15", BYTES(FIRST));
+    expect_none_raw("a version request without its last byte: 15", BYTES(FIRST, 0x00, 0x06));
+    expect_none_raw("three bytes with a right check sum: 15", BYTES(FIRST, 0xbe, 0x86));
+    expect_none_raw("300 bytes: 16", (const uint8_t[300]){FIRST, 0x00}, 300);
+    /* the upload has gone on nowhere: 58 bytes wait, and the 59th is taken */
+    expect("write where the first ended", BYTES(FIRST, 0x06, 0, MOST, 0x44), BYTES(FIRST, 0, 0));
+    expect("finalize", BYTES(FIRST, 0x07), BYTES(FIRST, 0, 2, 0, 1));
+
+    expect_none("start: 1", BYTES(FIRST, 0x05));
+    expect_none("foreign while running: 1", BYTES(30, 0x00));
+    expect_none("long while running: 1", request, sizeof request);
+    expect_none_raw("wrong check sum while running: 1", BYTES(FIRST, 0x00, 0x06, 0x71));
+    expect_none_raw("short while running: 1", BYTES(FIRST));
+    expect_none("general call: reset: 1", BYTES(0, 0x46));
+    expect("version, after the reset", BYTES(FIRST, 0x00), BYTES(FIRST, 0, 2, 2, 2));
 }
 
 static void written(char **bytes, int len)
@@ -175,8 +220,9 @@ static void written(char **bytes, int len)
 int main(int argc, char **argv)
 {
     bool whole = argc == 3 && strcmp(argv[2], "whole_run") == 0;
-    if (!whole && !(argc > 3 && argc < 60 && strcmp(argv[2], "written") == 0)) {
-        fprintf(stderr, "usage: master TTY whole_run | master TTY written BYTE ..\n");
+    bool silent = argc == 3 && strcmp(argv[2], "silences") == 0;
+    if (!whole && !silent && !(argc > 3 && argc < 60 && strcmp(argv[2], "written") == 0)) {
+        fprintf(stderr, "usage: master TTY whole_run | master TTY silences | master TTY written BYTE ..\n");
         return 2;
     }
     bus = modbus_new_rtu(argv[1], 9600, 'N', 8, 1);
@@ -185,6 +231,8 @@ int main(int argc, char **argv)
     patience(10, 0);
     if (whole)
         whole_run();
+    else if (silent)
+        silences();
     else
         written(argv + 3, argc - 3);
     modbus_close(bus);

@@ -3,12 +3,14 @@
 use crate::items::*;
 use crate::layout::*;
 use crate::library::{self, Lent};
+use crate::silences;
 use crate::tally::{Kind, Tally};
 use rules::board;
 use rules::ledger::{event, Seen};
 use rules::master::{self, Request, RESET_ADDRESS_CALL, RESET_CALL};
 use rules::model::*;
-use rules::script::{fnv, hex, UNTOUCHED};
+use rules::script::{fnv, hex, tally_text, UNTOUCHED};
+use rules::tally::Tally as Counters;
 
 /// What differs, and both answers as output lines of the case-file format.
 pub struct Difference {
@@ -29,16 +31,24 @@ impl From<Difference> for Stop {
     }
 }
 
-/// One board on both sides. No profile or no state: the bytes say none.
+/// One board on both sides. No profile, no state or no tally: the bytes say none.
 struct Board {
     profile: Option<Profile>,
     state: Option<State>,
     flash: Vec<u8>,
+    counters: Option<Counters>,
     profile_bytes: Vec<u8>,
     lent_profile: Lent,
     lent_state: Lent,
     lent_flash: Lent,
+    lent_tally: Lent,
     room: usize,
+}
+
+/// What the second program's board was before a call.
+struct Before {
+    state: Option<State>,
+    counters: Option<Counters>,
 }
 
 pub struct Pair {
@@ -49,9 +59,10 @@ pub struct Pair {
 }
 
 impl Pair {
-    /// As a case file starts: fresh state, room for 256 bytes.
+    /// As a case file starts: fresh state, room for 256 bytes, all counters 0.
     pub fn new() -> Pair {
         let state = State::fresh();
+        let counters = Counters::default();
         let board = Board {
             profile: None,
             profile_bytes: Vec::new(),
@@ -60,6 +71,8 @@ impl Pair {
             state: Some(state),
             flash: Vec::new(),
             lent_flash: Lent::new(&[]),
+            lent_tally: Lent::new(&tally_bytes(&counters)),
+            counters: Some(counters),
             room: 256,
         };
         Pair { board, has_profile: false, has_flash: false, tally: Tally::default() }
@@ -82,6 +95,10 @@ impl Pair {
                 self.board.state = Some((**s).clone());
             }
             Item::Room(n) => self.board.room = *n,
+            Item::Tally(counters) => {
+                self.board.lent_tally = Lent::new(&tally_bytes(counters));
+                self.board.counters = Some(*counters);
+            }
             Item::Board(call) => self.standing(call)?,
             Item::Aside(call, buffers) => self.aside(call, buffers)?,
             Item::Encode(e) => self.encode(e)?,
@@ -139,11 +156,11 @@ impl Pair {
         if !self.has_profile || !self.has_flash {
             return Err(Stop::Unfit);
         }
-        let before = self.board.state.clone();
+        let before = self.board.before();
         let (number, reply) = self.board.call(call)?;
-        self.board.count(&mut self.tally, before.as_ref(), call, number, &reply);
-        if let (Some(p), Some(before), Some(after)) = (&self.board.profile, &before, &self.board.state) {
-            if let BoardCall::Receive { address, frame } = call {
+        self.board.count(&mut self.tally, &before, call, number, &reply);
+        if let (Some(p), Some(before), Some(after)) = (&self.board.profile, &before.state, &self.board.state) {
+            if let BoardCall::Receive { address, frame, .. } = call {
                 let seen = Seen::Frame { address: (*address).min(255) as u8, frame };
                 let event = event(p.bus, seen, number as u8, &reply);
                 self.tally.frame(p, before, after, number, &reply, &event);
@@ -158,9 +175,9 @@ impl Pair {
             return Err(Stop::Unfit);
         }
         let mut board = self.board.copy(buffers);
-        let before = board.state.clone();
+        let before = board.before();
         let (number, reply) = board.call(call)?;
-        board.count(&mut self.tally, before.as_ref(), call, number, &reply);
+        board.count(&mut self.tally, &before, call, number, &reply);
         self.tally.aside += 1;
         Ok(())
     }
@@ -297,15 +314,15 @@ impl Pair {
     }
 
     fn send_reset_to(&mut self, buffers: Buffers, bus: Bus, frame: &[u8]) -> Result<(), Difference> {
-        let call = BoardCall::Receive { address: 0, frame: frame.to_vec() };
-        let mut board = self.board.copy(&buffers);
-        let before = board.state.clone();
         let made_to_run = buffers.state.is_some();
+        let call = BoardCall::Receive { address: 0, frame: frame.to_vec(), counted: made_to_run };
+        let mut board = self.board.copy(&buffers);
+        let before = board.before();
         let name = if made_to_run { "the board made to run" } else { "the board" };
         let sent = |what: &str| format!("the reset, sent to {name}: {what}");
         let (number, reply) = board.call(&call).map_err(|d| Difference { what: sent(&d.what), ..d })?;
-        board.count(&mut self.tally, before.as_ref(), &call, number, &reply);
-        if let (Some(p), Some(before), 0 | 1) = (&board.profile, &before, number) {
+        board.count(&mut self.tally, &before, &call, number, &reply);
+        if let (Some(p), Some(before), 0 | 1) = (&board.profile, &before.state, number) {
             // request W4 itself, whatever the second program's board says
             let fresh = state_of(board.lent_state.bytes()).is_some_and(|s| same_state(&s, &State::fresh()));
             let reset = number == 1 && fresh && board.lent_flash.bytes() == self.board.lent_flash.bytes();
@@ -406,36 +423,52 @@ impl Board {
         let state = buffers.state.as_deref().unwrap_or(self.lent_state.bytes());
         let flash_len = buffers.flash.unwrap_or(self.flash.len()).min(self.flash.len());
         let flash = &self.flash[..flash_len];
+        let tally = buffers.tally.as_deref().unwrap_or(self.lent_tally.bytes());
         Board {
             profile: profile_of(profile),
             state: state_of(state),
             flash: flash.to_vec(),
+            counters: tally_of(tally),
             profile_bytes: profile.to_vec(),
             lent_profile: Lent::new(profile),
             lent_state: Lent::new(state),
             lent_flash: Lent::new(flash),
+            lent_tally: Lent::new(tally),
             room: buffers.room.unwrap_or(self.room),
         }
     }
 
-    fn count(&self, tally: &mut Tally, before: Option<&State>, call: &BoardCall, number: u32, reply: &[u8]) {
+    fn before(&self) -> Before {
+        Before { state: self.state.clone(), counters: self.counters }
+    }
+
+    fn count(&self, tally: &mut Tally, before: &Before, call: &BoardCall, number: u32, reply: &[u8]) {
         let rs485 = self.profile_bytes.first() == Some(&1);
         let kind = match (call, rs485) {
-            (BoardCall::Receive { .. }, false) => Kind::FrameI2c,
-            (BoardCall::Receive { .. }, true) => Kind::FrameRs485,
+            (BoardCall::Receive { counted: false, .. }, false) => Kind::FrameI2c,
+            (BoardCall::Receive { counted: false, .. }, true) => Kind::FrameRs485,
+            (BoardCall::Receive { counted: true, .. }, false) => Kind::CountedI2c,
+            (BoardCall::Receive { counted: true, .. }, true) => Kind::CountedRs485,
             (BoardCall::Read { .. }, _) => Kind::Read,
         };
         tally.call(kind, number);
         tally.most_flash = tally.most_flash.max(self.flash.len());
-        if let (Some(p), Some(before), BoardCall::Receive { address, frame }) = (&self.profile, before, call) {
-            tally.address_edges.received(p, before, *address, frame, number, reply);
+        let (Some(p), Some(s)) = (&self.profile, &before.state) else {
+            return;
+        };
+        if let BoardCall::Receive { address, frame, counted } = call {
+            tally.address_edges.received(p, s, *address, frame, number, reply);
             tally.half_bytes.received(p.bus, frame, number, reply);
+            let lent = silences::Lent { counters: before.counters, len: self.lent_tally.bytes().len() };
+            let received = silences::Received { p, s, address: *address, frame, number };
+            tally.silences.received(&received, if *counted { Some(&lent) } else { None });
         }
     }
 
     /// The call on both sides; number and reply, if everything is the same.
     fn call(&mut self, call: &BoardCall) -> Result<(u32, Vec<u8>), Difference> {
         let given = self.lent_state.bytes().to_vec();
+        let given_tally = self.lent_tally.bytes().to_vec();
         let mut out = vec![UNTOUCHED; self.room];
         let mut lent_out = Lent::new(&out);
         let answer = self.second(call, &mut out);
@@ -444,13 +477,14 @@ impl Board {
         let what = output_fault(answer, &out, got, &lent_out)
             .or_else(|| bytes_fault("flash", &self.flash, self.lent_flash.bytes()))
             .or_else(|| self.state_fault(&given, only_read || got.0 > 1))
+            .or_else(|| self.tally_fault(&given_tally))
             .or_else(|| self.guard_fault());
         let Some(what) = what else {
             out.truncate(answer.len);
             return Ok((got.0, out));
         };
-        let letter = if only_read { 'I' } else { 'R' };
-        let second = format!(
+        let letter = call.letter();
+        let mut second = format!(
             "{letter} {} {} {} {:016x} 1",
             answer.number,
             hex(&out[..answer.len]),
@@ -460,7 +494,11 @@ impl Board {
         let output = output_text(got, &lent_out);
         let (front, ok) = output.rsplit_once(' ').unwrap_or((&output, "0"));
         let state = state_text(state_of(self.lent_state.bytes()).as_ref());
-        let library = format!("{letter} {front} {state} {:016x} {ok}", fnv(self.lent_flash.bytes()));
+        let mut library = format!("{letter} {front} {state} {:016x} {ok}", fnv(self.lent_flash.bytes()));
+        if call.is_counted() {
+            second = format!("{second} {}", counters_text(self.counters));
+            library = format!("{library} {}", counters_text(tally_of(self.lent_tally.bytes())));
+        }
         Err(Difference { what, second, library })
     }
 
@@ -475,8 +513,14 @@ impl Board {
         };
         match call {
             // 128 and above are foreign, so that 255 stands for all numbers above it
-            BoardCall::Receive { address, frame } => {
-                board::receive(p, s, &mut self.flash, out, (*address).min(255) as u8, frame)
+            BoardCall::Receive { address, frame, counted } => {
+                let address = (*address).min(255) as u8;
+                match &mut self.counters {
+                    Some(counters) if *counted => {
+                        board::receive_tally(p, s, &mut self.flash, out, address, frame, counters)
+                    }
+                    _ => board::receive(p, s, &mut self.flash, out, address, frame),
+                }
             }
             BoardCall::Read { address } => board::read(p, s, &self.flash, out, (*address).min(255) as u8),
         }
@@ -484,10 +528,14 @@ impl Board {
 
     fn library(&mut self, call: &BoardCall, out: &mut Lent) -> Result<(u32, usize), Difference> {
         match call {
-            BoardCall::Receive { address, frame } => {
+            BoardCall::Receive { address, frame, counted } => {
                 let lent = Lent::new(frame);
                 let (p, s, flash) = (&self.lent_profile, &mut self.lent_state, &mut self.lent_flash);
-                let got = library::receive(p, s, *address, &lent, flash, out);
+                let got = if *counted {
+                    library::receive_tally(p, s, *address, &lent, flash, out, &mut self.lent_tally)
+                } else {
+                    library::receive(p, s, *address, &lent, flash, out)
+                };
                 if lent.bytes() != frame || !lent.guarded() {
                     return Err(Difference::only("the frame was changed"));
                 }
@@ -515,12 +563,26 @@ impl Board {
         bytes_fault("past the state", given.get(STATE_BYTES..)?, now.get(STATE_BYTES..)?)
     }
 
+    /// The counters where there is a tally; every other byte as it was given.
+    fn tally_fault(&self, given: &[u8]) -> Option<String> {
+        let mut due = given.to_vec();
+        if let Some(counters) = &self.counters {
+            due[..TALLY_BYTES].copy_from_slice(&tally_bytes(counters)[..TALLY_BYTES]);
+        }
+        bytes_fault("tally", &due, self.lent_tally.bytes())
+    }
+
     fn guard_fault(&self) -> Option<String> {
-        if !self.lent_flash.guarded() || !self.lent_state.guarded() || !self.lent_profile.guarded() {
+        let lent = [&self.lent_flash, &self.lent_state, &self.lent_profile, &self.lent_tally];
+        if !lent.iter().all(|buffer| buffer.guarded()) {
             return Some("bytes outside a buffer were written".to_string());
         }
         bytes_fault("profile", &self.profile_bytes, self.lent_profile.bytes())
     }
+}
+
+fn counters_text(counters: Option<Counters>) -> String {
+    counters.map_or("(bytes that say no tally)".to_string(), |counters| tally_text(&counters))
 }
 
 fn state_text(state: Option<&State>) -> String {

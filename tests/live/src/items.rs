@@ -2,7 +2,8 @@
 //! C functions have (README.md).
 
 use rules::model::*;
-use rules::script::hex;
+use rules::script::{hex, tally_text};
+use rules::tally::Tally as Counters;
 
 #[derive(Clone, Debug)]
 pub enum Item {
@@ -15,6 +16,7 @@ pub enum Item {
     Fresh,
     State(Box<State>),
     Room(usize),
+    Tally(Counters),
     Board(BoardCall),
     Encode(Encode),
     Decode(Decode),
@@ -52,8 +54,15 @@ pub enum Item {
 
 #[derive(Clone, Debug)]
 pub enum BoardCall {
-    Receive { address: u32, frame: Vec<u8> },
-    Read { address: u32 },
+    /// Counted: by the call that takes a tally.
+    Receive {
+        address: u32,
+        frame: Vec<u8>,
+        counted: bool,
+    },
+    Read {
+        address: u32,
+    },
 }
 
 #[derive(Clone, Debug)]
@@ -84,13 +93,15 @@ pub struct ResetRunning {
     pub minor: u32,
 }
 
-/// Profile bytes, state bytes, length of the flash and of the output; none: the standing one.
+/// Profile bytes, state bytes, length of the flash and of the output, tally bytes; none: the standing one.
 #[derive(Clone, Debug, Default)]
 pub struct Buffers {
     pub profile: Option<Vec<u8>>,
     pub state: Option<Vec<u8>>,
     pub flash: Option<usize>,
     pub room: Option<usize>,
+    /// Only counted calls take one.
+    pub tally: Option<Vec<u8>>,
 }
 
 pub const MOST_FLASH: u32 = 131_072;
@@ -116,6 +127,7 @@ impl Item {
             Item::Fresh => "Z".to_string(),
             Item::State(s) => state_line(s),
             Item::Room(n) => format!("B {n}"),
+            Item::Tally(tally) => format!("K {}", tally_text(tally)),
             Item::Board(call) => call.text(),
             Item::Encode(e) => e.text(),
             Item::Decode(d) => d.text(),
@@ -124,7 +136,7 @@ impl Item {
             }
             Item::Version { major, minor } => format!("V {major} {minor}"),
             Item::ResetRunning(a) => a.text(),
-            Item::Aside(call, own) => format!("#! {} {}", call.text(), own.text()),
+            Item::Aside(call, own) => format!("#! {} {}", call.text(), own.text(call.is_counted())),
             Item::AsideEncode(e, room) => format!("#! {} {room}", e.text()),
             Item::General { bus, m, reset, room } => format!("#! G {bus} {m} {reset} {room}"),
             Item::AsideDecode(d) => format!("#! {}", d.text()),
@@ -151,10 +163,24 @@ pub fn own_number(s: &State) -> u32 {
 }
 
 impl BoardCall {
-    fn text(&self) -> String {
+    pub fn is_counted(&self) -> bool {
+        matches!(self, BoardCall::Receive { counted: true, .. })
+    }
+
+    /// The letter of its line.
+    pub fn letter(&self) -> char {
         match self {
-            BoardCall::Receive { address, frame } => format!("R {address} {}", hex(frame)),
-            BoardCall::Read { address } => format!("I {address}"),
+            BoardCall::Receive { counted: false, .. } => 'R',
+            BoardCall::Receive { counted: true, .. } => 'C',
+            BoardCall::Read { .. } => 'I',
+        }
+    }
+
+    fn text(&self) -> String {
+        let letter = self.letter();
+        match self {
+            BoardCall::Receive { address, frame, .. } => format!("{letter} {address} {}", hex(frame)),
+            BoardCall::Read { address } => format!("{letter} {address}"),
         }
     }
 }
@@ -181,10 +207,14 @@ impl ResetRunning {
 }
 
 impl Buffers {
-    fn text(&self) -> String {
+    fn text(&self, counted: bool) -> String {
         let bytes = |given: &Option<Vec<u8>>| given.as_ref().map_or("=".to_string(), |b| hex(b));
         let number = |given: Option<usize>| given.map_or("=".to_string(), |n| n.to_string());
-        format!("{} {} {} {}", bytes(&self.profile), bytes(&self.state), number(self.flash), number(self.room))
+        let mut words = vec![bytes(&self.profile), bytes(&self.state), number(self.flash), number(self.room)];
+        if counted {
+            words.push(bytes(&self.tally));
+        }
+        words.join(" ")
     }
 }
 
@@ -244,7 +274,12 @@ fn plain(letter: &str, f: &[&str]) -> Result<Item, String> {
             }))
         }
         ("B", [n]) => Item::Room(number(n, MOST_ROOM as u32)? as usize),
-        ("R" | "I", _) => Item::Board(board_call(letter, f, 255)?),
+        ("K", [short, long, crc, foreign, answered]) => {
+            let counter = |text: &str| number(text, 65_535).map(|n| n as u16);
+            let counters = [counter(short)?, counter(long)?, counter(crc)?, counter(foreign)?, counter(answered)?];
+            Item::Tally(Counters::of(counters))
+        }
+        ("R" | "C" | "I", _) => Item::Board(board_call(letter, f, 255)?),
         ("E", _) => Item::Encode(encode(f, 1)?),
         ("D", _) => Item::Decode(decode(f, 1, 255)?),
         ("T", [code, asked, first, second]) => Item::TwoReads {
@@ -262,16 +297,11 @@ fn plain(letter: &str, f: &[&str]) -> Result<Item, String> {
 fn aside(letter: &str, f: &[&str]) -> Result<Item, String> {
     let all = u32::MAX;
     Ok(match (letter, f) {
-        ("R", [call @ .., profile, state, flash, room]) | ("I", [call @ .., profile, state, flash, room]) => {
-            Item::Aside(
-                board_call(letter, call, all)?,
-                Buffers {
-                    profile: given(profile, |t| bytes(t, MOST_BYTES))?,
-                    state: given(state, |t| bytes(t, MOST_BYTES))?,
-                    flash: given(flash, |t| number(t, MOST_FLASH).map(|n| n as usize))?,
-                    room: given(room, |t| number(t, MOST_ROOM as u32).map(|n| n as usize))?,
-                },
-            )
+        ("R" | "I", [call @ .., profile, state, flash, room]) => {
+            Item::Aside(board_call(letter, call, all)?, buffers(profile, state, flash, room, "=")?)
+        }
+        ("C", [call @ .., profile, state, flash, room, tally]) => {
+            Item::Aside(board_call(letter, call, all)?, buffers(profile, state, flash, room, tally)?)
         }
         ("E", [call @ .., room]) => Item::AsideEncode(encode(call, all)?, number(room, MOST_ROOM as u32)? as usize),
         ("G", [bus, m, reset, room]) => Item::General {
@@ -290,11 +320,23 @@ fn aside(letter: &str, f: &[&str]) -> Result<Item, String> {
     })
 }
 
+fn buffers(profile: &str, state: &str, flash: &str, room: &str, tally: &str) -> Result<Buffers, String> {
+    Ok(Buffers {
+        profile: given(profile, |t| bytes(t, MOST_BYTES))?,
+        state: given(state, |t| bytes(t, MOST_BYTES))?,
+        flash: given(flash, |t| number(t, MOST_FLASH).map(|n| n as usize))?,
+        room: given(room, |t| number(t, MOST_ROOM as u32).map(|n| n as usize))?,
+        tally: given(tally, |t| bytes(t, MOST_BYTES))?,
+    })
+}
+
 fn board_call(letter: &str, f: &[&str], most: u32) -> Result<BoardCall, String> {
     match (letter, f) {
-        ("R", [address, frame]) => {
-            Ok(BoardCall::Receive { address: number(address, most)?, frame: bytes(frame, MOST_BYTES)? })
-        }
+        ("R" | "C", [address, frame]) => Ok(BoardCall::Receive {
+            address: number(address, most)?,
+            frame: bytes(frame, MOST_BYTES)?,
+            counted: letter == "C",
+        }),
         ("I", [address]) => Ok(BoardCall::Read { address: number(address, most)? }),
         _ => Err(format!("wrong number of fields after `{letter}`")),
     }

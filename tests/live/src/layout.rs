@@ -1,10 +1,12 @@
-//! Profile and state as byte buffers, by the layouts in include/childbus.h.
+//! Profile, state and tally as byte buffers, by the layouts in include/childbus.h.
 
 use rules::model::*;
 use rules::rng::Rng;
+use rules::tally::Tally as Counters;
 
 pub const PROFILE_BYTES: usize = 36;
 pub const STATE_BYTES: usize = 340;
+pub const TALLY_BYTES: usize = 10;
 
 /// The profile in bytes. Ignored bytes, and up to three past the end, hold anything.
 pub fn profile_bytes(p: &Profile) -> Vec<u8> {
@@ -94,6 +96,27 @@ pub fn state_of(b: &[u8]) -> Option<State> {
 pub fn same_state(a: &State, b: &State) -> bool {
     let numbers = |s: &State| (s.own, s.running, s.next, s.w, s.count, s.reply_len);
     numbers(a) == numbers(b) && a.waiting_bytes() == b.waiting_bytes() && a.last_reply() == b.last_reply()
+}
+
+/// The tally in bytes. Up to three past the end hold anything.
+pub fn tally_bytes(tally: &Counters) -> Vec<u8> {
+    let [short, long, crc, foreign, answered] = tally.counters();
+    let mut rng = Rng::new(u64::from(short) ^ u64::from(long) << 16 ^ u64::from(answered) << 32);
+    let mut b = anything(&mut rng, TALLY_BYTES);
+    for (at, counter) in [(0, short), (2, long), (4, crc), (6, foreign), (8, answered)] {
+        b[at] = (counter % 256) as u8;
+        b[at + 1] = (counter / 256) as u8;
+    }
+    b
+}
+
+/// The tally that the bytes say; none if they are too few.
+pub fn tally_of(b: &[u8]) -> Option<Counters> {
+    if b.len() < TALLY_BYTES {
+        return None;
+    }
+    let counter = |at: usize| u16::from(b[at]) + 256 * u16::from(b[at + 1]);
+    Some(Counters::of([counter(0), counter(2), counter(4), counter(6), counter(8)]))
 }
 
 fn anything(rng: &mut Rng, least: usize) -> Vec<u8> {

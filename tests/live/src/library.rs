@@ -17,6 +17,22 @@ mod c {
             out_len: usize,
             made: *mut usize,
         ) -> u32;
+        pub fn childbus_receive_tally(
+            profile: *const u8,
+            profile_len: usize,
+            state: *mut u8,
+            state_len: usize,
+            address: u32,
+            frame: *const u8,
+            frame_len: usize,
+            flash: *mut u8,
+            flash_len: usize,
+            out: *mut u8,
+            out_len: usize,
+            tally: *mut u8,
+            tally_len: usize,
+            made: *mut usize,
+        ) -> u32;
         pub fn childbus_read(
             profile: *const u8,
             profile_len: usize,
@@ -144,6 +160,23 @@ pub fn receive(
     let ((m, mn), (o, on)) = (flash.write(), out.write());
     let mut made = UNSET;
     let number = unsafe { c::childbus_receive(p, pn, s, sn, address, f, fn_, m, mn, o, on, &mut made) };
+    (number, made)
+}
+
+/// The number, and the length of the reply. The frame is counted in the tally.
+pub fn receive_tally(
+    profile: &Lent,
+    state: &mut Lent,
+    address: u32,
+    frame: &Lent,
+    flash: &mut Lent,
+    out: &mut Lent,
+    tally: &mut Lent,
+) -> (u32, usize) {
+    let ((p, pn), (s, sn), (f, fn_)) = (profile.read(), state.write(), frame.read());
+    let ((m, mn), (o, on), (t, tn)) = (flash.write(), out.write(), tally.write());
+    let mut made = UNSET;
+    let number = unsafe { c::childbus_receive_tally(p, pn, s, sn, address, f, fn_, m, mn, o, on, t, tn, &mut made) };
     (number, made)
 }
 

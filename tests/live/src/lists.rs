@@ -3,10 +3,12 @@
 
 use crate::cases::{self, most_data, most_results, random_own, random_set_address, reply, Sheet, BUSES};
 use crate::items::*;
-use crate::layout::{profile_bytes, put, state_bytes, PROFILE_BYTES, STATE_BYTES};
+use crate::layout::{profile_bytes, put, state_bytes, tally_bytes, PROFILE_BYTES, STATE_BYTES, TALLY_BYTES};
 use rules::check::{framed, general_frame, some_new_address, write_frame};
 use rules::model::*;
 use rules::rng::Rng;
+use rules::silences::{any_tally, silent_frame};
+use rules::sums::push_crc16;
 
 /// List number `k` of a seed.
 pub fn list(seed: u64, k: u64) -> Vec<Item> {
@@ -27,7 +29,7 @@ fn upload(rng: &mut Rng, sizes: &[u64]) -> String {
     let s = rng.of(sizes) as u32;
     let o = rng.of(&[0, 0, 64, 65_472]) as u32;
     let m = if s > 10_000 { 256 } else { m };
-    let mut sheet = Sheet::default();
+    let mut sheet = Sheet { counting: Some(Rng::new(rng.number())), ..Sheet::default() };
     sheet.board(bus, m, s, o);
     let length = if rng.percent(60) { s as usize } else { rng.below(u64::from(s) + 1) as usize };
     let mut image = rng.bytes(length);
@@ -94,7 +96,7 @@ fn between(sheet: &mut Sheet, rng: &mut Rng) {
     }
 }
 
-/// More calls, one for each three items or so. None of them changes the board.
+/// More calls, one for each two items or so. None of them changes the upload.
 fn with_more(rng: &mut Rng, items: Vec<Item>) -> Vec<Item> {
     let mut list = Vec::with_capacity(items.len() * 4 / 3);
     let mut profile = None;
@@ -112,7 +114,8 @@ fn with_more(rng: &mut Rng, items: Vec<Item>) -> Vec<Item> {
         list.push(item);
         match &profile {
             // a copy of a large flash takes time
-            Some(p) if has_flash && rng.percent(if large { 1 } else { 33 }) => list.push(more(rng, p)),
+            Some(p) if has_flash && rng.percent(if large { 1 } else { 42 }) => list.push(more(rng, p)),
+            Some(p) if has_flash && rng.percent(12) => list.extend(silence(rng, p)),
             _ => {}
         }
     }
@@ -120,7 +123,7 @@ fn with_more(rng: &mut Rng, items: Vec<Item>) -> Vec<Item> {
 }
 
 fn more(rng: &mut Rng, p: &Profile) -> Item {
-    match rng.below(24) {
+    match rng.below(34) {
         0..=4 => aside(rng, p),
         5 => Item::AsideEncode(any_encode(rng), rng.of(&[0, 1, 3, 4, 5, 7, 8, 31, 32, 255, 256, 257, 300]) as usize),
         6 => exact_encode(rng),
@@ -132,13 +135,14 @@ fn more(rng: &mut Rng, p: &Profile) -> Item {
         },
         8 | 9 => any_decode(rng),
         10 => two_reads(rng),
-        11..=14 => set_address_encode(rng),
-        15 | 16 => set_address_aside(rng, p),
-        17..=20 => any_reset_running(rng, p),
-        21 | 22 => {
+        11..=16 => set_address_encode(rng),
+        17 | 18 => set_address_aside(rng, p),
+        19..=24 => any_reset_running(rng, p),
+        25 | 26 => {
             let (major, minor) = any_version(rng);
             Item::AsideVersion { major, minor }
         }
+        27..=32 => silent_aside(rng, p),
         _ => Item::AsideFresh(rng.of(&[0, 1, 84, 339, 340, 341, 400]) as usize),
     }
 }
@@ -148,6 +152,75 @@ fn any_bus(rng: &mut Rng) -> u32 {
         return rng.of(&[2, 9, 256, 257, 4_294_967_295]) as u32;
     }
     rng.below(2) as u32
+}
+
+/// A frame to the standing board, mostly one that gets silence on RS485, at times with a tally before it. What the board takes
+/// on is a request for its version.
+fn silence(rng: &mut Rng, p: &Profile) -> Vec<Item> {
+    let mut items = Vec::new();
+    if rng.percent(30) {
+        items.push(Item::Tally(any_tally(rng)));
+    }
+    let to = rng.of(&[0, 1, 7, 8, 8, 15, 16, 20, 255]) as u8;
+    let version = framed(p.bus, to, VERSION, &[]);
+    let mut frame = match rng.below(6) {
+        0 => version[..rng.below(version.len() as u64) as usize].to_vec(),
+        1 => short_sealed(rng, to),
+        2 | 3 => {
+            // M bytes, M + 1, and far more
+            let most = u64::from(p.m).clamp(32, 590) - version.len() as u64;
+            let length = rng.of(&[most, most + 1, most + 1, 300, 590]) as usize;
+            framed(p.bus, to, VERSION, &rng.bytes(length))
+        }
+        _ => version,
+    };
+    if rng.percent(30) {
+        damage_one(rng, &mut frame);
+    }
+    let address = u32::from(if p.bus == Bus::I2c && rng.percent(30) { rng.byte() } else { to });
+    items.push(Item::Board(BoardCall::Receive { address, frame, counted: rng.percent(70) }));
+    items
+}
+
+/// Two or three bytes with their right CRC-16.
+fn short_sealed(rng: &mut Rng, to: u8) -> Vec<u8> {
+    let mut frame = vec![to; rng.below(2) as usize];
+    push_crc16(&mut frame);
+    frame
+}
+
+/// A frame that mostly gets silence, to a board in a state of its own, half of them with a tally of its own.
+fn silent_aside(rng: &mut Rng, p: &Profile) -> Item {
+    let mut state = any_state(rng, p);
+    if rng.percent(40) {
+        state.own = Own::Address(rng.of(&[0, 0, 1, 8, 20, 255]) as u8);
+    }
+    let own = some_own(rng, &state);
+    let address = rng.of(&[u64::from(own), u64::from(own), 0, 16, 200, 65_536]) as u32;
+    let frame = silent_frame(rng, p, own);
+    let counted = rng.percent(85);
+    let mut buffers = Buffers { state: Some(state_bytes(&state)), ..Buffers::default() };
+    if counted && rng.percent(60) {
+        buffers.tally = Some(any_tally_bytes(rng));
+    }
+    Item::Aside(BoardCall::Receive { address, frame, counted }, buffers)
+}
+
+/// A tally, one with more bytes behind it, or too few bytes.
+fn any_tally_bytes(rng: &mut Rng) -> Vec<u8> {
+    let mut b = tally_bytes(&any_tally(rng));
+    b.truncate(TALLY_BYTES);
+    match rng.below(8) {
+        0 => b.clear(),
+        1 => b.truncate(TALLY_BYTES - 1),
+        2 => b.truncate(rng.below(TALLY_BYTES as u64) as usize),
+        3 => {
+            let more = 1 + rng.below(30) as usize;
+            b.extend(rng.bytes(more));
+        }
+        _ => {}
+    }
+    b
 }
 
 /// A board call with a profile, a state, a flash or an output of its own.
@@ -169,6 +242,9 @@ fn aside(rng: &mut Rng, p: &Profile) -> Item {
         let m = u64::from(p.m).min(MOST_ROOM as u64);
         buffers.room = Some(rng.of(&[0, 31, m.saturating_sub(1), m]) as usize);
     }
+    if call.is_counted() && rng.percent(50) {
+        buffers.tally = Some(any_tally_bytes(rng));
+    }
     Item::Aside(call, buffers)
 }
 
@@ -176,7 +252,8 @@ fn aside(rng: &mut Rng, p: &Profile) -> Item {
 fn set_address_aside(rng: &mut Rng, p: &Profile) -> Item {
     let state = any_state(rng, p);
     let own = some_own(rng, &state);
-    let call = BoardCall::Receive { address: u32::from(own), frame: random_set_address(rng, p, own) };
+    let frame = random_set_address(rng, p, own);
+    let call = BoardCall::Receive { address: u32::from(own), frame, counted: rng.percent(30) };
     Item::Aside(call, Buffers { state: Some(state_bytes(&state)), ..Buffers::default() })
 }
 
@@ -229,7 +306,8 @@ fn any_board_call(rng: &mut Rng, p: &Profile, s: &State) -> BoardCall {
         }
     };
     let general = frame == general_frame(p.bus, 4) || frame == general_frame(p.bus, 6);
-    BoardCall::Receive { address: if general { address - u32::from(own) } else { address }, frame }
+    let address = if general { address - u32::from(own) } else { address };
+    BoardCall::Receive { address, frame, counted: rng.percent(50) }
 }
 
 /// One field that the bytes can hold and the profile can't, a short buffer, or a longer one.

@@ -12,6 +12,7 @@ mod library;
 mod lists;
 mod running;
 mod shrink;
+mod silences;
 mod tally;
 
 use compare::{Difference, Pair, Stop};

@@ -2,11 +2,12 @@
 
 use crate::compare::{Difference, Pair, Stop};
 use crate::items::*;
-use crate::layout::{profile_of, state_of, STATE_BYTES};
+use crate::layout::{profile_of, state_of, tally_of, STATE_BYTES, TALLY_BYTES};
 use rules::check::general_frame;
 use rules::master::{RESET_ADDRESS_CALL, RESET_CALL};
 use rules::model::*;
 use rules::sums::{crc16_right, crc8_right, push_crc16, push_crc8};
+use rules::tally::Tally as Counters;
 use std::time::{Duration, Instant};
 
 const LONGEST: Duration = Duration::from_secs(30);
@@ -40,7 +41,12 @@ pub fn smallest(items: &[Item]) -> Option<Smallest> {
     let (k, difference) = first_difference(items)?;
     let best = Smallest { items: items[..=k].to_vec(), difference, tries: 1 };
     let mut search = Search { best, end: Instant::now() + LONGEST };
-    while search.plain_last() | search.drop_items() | search.plain_addresses() | search.simplify_items() {}
+    while search.plain_last()
+        | search.drop_items()
+        | search.plain_addresses()
+        | search.without_tally()
+        | search.simplify_items()
+    {}
     Some(search.best)
 }
 
@@ -111,6 +117,28 @@ impl Search {
         length(&items) < length(&self.best.items) && self.takes(items)
     }
 
+    /// Puts frames that are not counted in place of counted ones: all, else one after the other.
+    fn without_tally(&mut self) -> bool {
+        let counted = |item: &Item| not_counted(item).is_some();
+        if !self.best.items.iter().any(counted) {
+            return false;
+        }
+        let all = self.best.items.iter().map(|item| not_counted(item).unwrap_or_else(|| item.clone())).collect();
+        if self.takes(all) {
+            return true;
+        }
+        let mut changed = false;
+        for k in 0..self.best.items.len() {
+            let Some(plain) = self.best.items.get(k).and_then(not_counted) else {
+                continue;
+            };
+            let mut items = self.best.items.clone();
+            items[k] = plain;
+            changed |= self.takes(items);
+        }
+        changed
+    }
+
     fn simplify_items(&mut self) -> bool {
         let mut changed = false;
         let mut k = 0;
@@ -153,6 +181,26 @@ fn cost(item: &Item) -> (usize, usize, usize) {
     (text.len(), text.bytes().filter(|&c| c != b'0').count(), sum)
 }
 
+/// A counted frame by the call that takes no tally.
+fn not_counted(item: &Item) -> Option<Item> {
+    match item {
+        Item::Board(call) if call.is_counted() => Some(Item::Board(without_tally(call))),
+        Item::Aside(call, buffers) if call.is_counted() => {
+            Some(Item::Aside(without_tally(call), Buffers { tally: None, ..buffers.clone() }))
+        }
+        _ => None,
+    }
+}
+
+fn without_tally(call: &BoardCall) -> BoardCall {
+    match call {
+        BoardCall::Receive { address, frame, .. } => {
+            BoardCall::Receive { address: *address, frame: frame.clone(), counted: false }
+        }
+        BoardCall::Read { address } => BoardCall::Read { address: *address },
+    }
+}
+
 /// A `#!` line as lines of the case-file format, where it has them.
 fn plain(item: &Item) -> Option<Vec<Item>> {
     match item {
@@ -175,7 +223,7 @@ fn plain(item: &Item) -> Option<Vec<Item>> {
         // the board's part of it
         Item::ResetRunning(ResetRunning { bus, major: 0, minor: 0, .. }) => {
             let frame = general_frame(if *bus == 0 { Bus::I2c } else { Bus::Rs485 }, 6);
-            Some(vec![Item::Board(BoardCall::Receive { address: 0, frame })])
+            Some(vec![Item::Board(BoardCall::Receive { address: 0, frame, counted: false })])
         }
         _ => None,
     }
@@ -200,6 +248,9 @@ fn plain_board_call(call: &BoardCall, buffers: &Buffers) -> Option<Vec<Item>> {
         lines.push(Item::State(Box::new(state_of(bytes)?)));
     }
     lines.extend(buffers.room.map(Item::Room));
+    if let Some(bytes) = &buffers.tally {
+        lines.push(Item::Tally(tally_of(bytes)?));
+    }
     lines.push(Item::Board(call.clone()));
     Some(lines)
 }
@@ -210,6 +261,7 @@ fn simpler(item: &Item, profile: Option<&Profile>) -> Vec<Item> {
         Item::Profile(p) => profiles(p),
         Item::Flash { len, a, b } => flashes(*len, *a, *b, profile),
         Item::State(s) => states(s),
+        Item::Tally(tally) => tallies(tally),
         Item::Room(_) => profile.iter().map(|p| Item::Room(p.m.min(MOST_ROOM as u32) as usize)).collect(),
         Item::Board(call) => board_calls(call, bus).into_iter().map(Item::Board).collect(),
         Item::Aside(call, buffers) => asides(call, buffers, bus),
@@ -291,6 +343,18 @@ fn states(s: &State) -> Vec<Item> {
     list
 }
 
+fn tallies(tally: &Counters) -> Vec<Item> {
+    let mut list = vec![Counters::default()];
+    for k in 0..5 {
+        for simpler in [0, 1, 255, 65_534, 65_535] {
+            let mut counters = tally.counters();
+            counters[k] = simpler;
+            list.push(Counters::of(counters));
+        }
+    }
+    list.into_iter().map(Item::Tally).collect()
+}
+
 /// The call to address 8; none for set address.
 fn to_eight(call: &BoardCall, bus: Bus) -> Option<BoardCall> {
     let eight = |address: u32| if address == 0 { 0 } else { 8 };
@@ -298,22 +362,23 @@ fn to_eight(call: &BoardCall, bus: Bus) -> Option<BoardCall> {
         (BoardCall::Read { address }, _) => Some(BoardCall::Read { address: eight(*address) }),
         (BoardCall::Receive { frame, .. }, Bus::I2c) if frame.first() == Some(&SET_ADDRESS) => None,
         (BoardCall::Receive { frame, .. }, Bus::Rs485) if frame.get(1) == Some(&SET_ADDRESS) => None,
-        (BoardCall::Receive { address, frame }, bus) => {
+        (BoardCall::Receive { address, frame, counted }, bus) => {
             let mut frame = frame.clone();
             if bus == Bus::Rs485 && crc16_right(&frame) && frame[0] != 0 {
                 frame.truncate(frame.len() - 2);
                 frame[0] = 8;
                 push_crc16(&mut frame);
             }
-            Some(BoardCall::Receive { address: eight(*address), frame })
+            Some(BoardCall::Receive { address: eight(*address), frame, counted: *counted })
         }
     }
 }
 
 fn board_calls(call: &BoardCall, bus: Option<Bus>) -> Vec<BoardCall> {
     match call {
-        BoardCall::Receive { address, frame } => {
-            frames(frame, bus).into_iter().map(|frame| BoardCall::Receive { address: *address, frame }).collect()
+        BoardCall::Receive { address, frame, counted } => {
+            let with = |frame| BoardCall::Receive { address: *address, frame, counted: *counted };
+            frames(frame, bus).into_iter().map(with).collect()
         }
         BoardCall::Read { .. } => Vec::new(),
     }
@@ -330,6 +395,7 @@ fn asides(call: &BoardCall, buffers: &Buffers, bus: Option<Bus>) -> Vec<Item> {
     with(&|b| b.state = None);
     with(&|b| b.flash = None);
     with(&|b| b.room = None);
+    with(&|b| b.tally = None);
     if let Some(bytes) = &buffers.profile {
         for other in shorter(bytes).into_iter().chain(zeroed(bytes)) {
             with(&|b| b.profile = Some(other.clone()));
@@ -339,6 +405,12 @@ fn asides(call: &BoardCall, buffers: &Buffers, bus: Option<Bus>) -> Vec<Item> {
         let whole: Vec<u8> = bytes.iter().take(STATE_BYTES).copied().collect();
         for other in [whole].into_iter().chain(zeroed(bytes)) {
             with(&|b| b.state = Some(other.clone()));
+        }
+    }
+    if let Some(bytes) = &buffers.tally {
+        let whole: Vec<u8> = bytes.iter().take(TALLY_BYTES).copied().collect();
+        for other in [whole].into_iter().chain(shorter(bytes)).chain(zeroed(bytes)) {
+            with(&|b| b.tally = Some(other.clone()));
         }
     }
     list.extend(board_calls(call, bus).into_iter().map(|call| Item::Aside(call, buffers.clone())));

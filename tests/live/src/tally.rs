@@ -1,8 +1,9 @@
-//! What was compared: calls of each kind by number, and what happened in them.
+//! What was compared: calls of each kind by number, and what happened in them. (The board's own tally is in `silences`.)
 
 use crate::address_edges::AddressEdges;
 use crate::half_bytes::HalfBytes;
 use crate::running::Running;
+use crate::silences::Silences;
 use rules::ledger::Event;
 use rules::model::*;
 
@@ -10,6 +11,8 @@ use rules::model::*;
 pub enum Kind {
     FrameI2c,
     FrameRs485,
+    CountedI2c,
+    CountedRs485,
     Read,
     Encode,
     General,
@@ -20,14 +23,16 @@ pub enum Kind {
     Fresh,
 }
 
-const KINDS: usize = 10;
+const KINDS: usize = 12;
 /// The numbers that calls answer.
-const NUMBERS: [u32; 16] = [0, 1, 2, 3, 4, 5, 6, 7, 8, 9, 10, 11, 12, 13, 14, 40];
+const NUMBERS: [u32; 20] = [0, 1, 2, 3, 4, 5, 6, 7, 8, 9, 10, 11, 12, 13, 14, 15, 16, 17, 18, 40];
 
 /// Name, and the numbers that its calls can answer.
 const ROWS: [(&str, &[u32]); KINDS] = [
     ("frame, I2C", &[0, 1, 2, 3, 4, 5]),
-    ("frame, RS485", &[0, 1, 2, 3, 4, 5]),
+    ("frame, RS485", &[0, 1, 2, 3, 4, 5, 15, 16, 17, 18]),
+    ("counted, I2C", &[0, 1, 2, 3, 4, 5]),
+    ("counted, RS485", &[0, 1, 2, 3, 4, 5, 15, 16, 17, 18]),
     ("I2C read", &[0, 1, 2, 3, 4, 5]),
     ("encoder", &[0, 2, 6, 7]),
     ("general call", &[0, 2, 6]),
@@ -67,6 +72,7 @@ pub struct Tally {
     pub address_edges: AddressEdges,
     pub half_bytes: HalfBytes,
     pub running: Running,
+    pub silences: Silences,
 }
 
 /// The place of a number in `NUMBERS`.
@@ -149,11 +155,11 @@ impl Tally {
 
     pub fn lines(&self) -> Vec<String> {
         let head: String = NUMBERS.iter().map(|n| format!("{n:>9}")).collect();
-        let mut lines = vec![format!("{:<14}{head}", "answers")];
+        let mut lines = vec![format!("{:<15}{head}", "answers")];
         for ((name, _), row) in ROWS.iter().zip(&self.numbers) {
             let cells: String =
                 row.iter().map(|&n| if n == 0 { format!("{:>9}", ".") } else { format!("{n:>9}") }).collect();
-            lines.push(format!("{name:<14}{cells}"));
+            lines.push(format!("{name:<15}{cells}"));
         }
         lines.push(format!("replies to frames by status 0 to 5: {}", listed(&self.statuses)));
         lines.push(format!("decoded replies by status 0 to 5: {}", listed(&self.decoded)));
@@ -162,6 +168,7 @@ impl Tally {
         lines.extend(self.address_edges.lines());
         lines.push(self.half_bytes.line());
         lines.extend(self.running.lines());
+        lines.extend(self.silences.lines());
         lines.push(format!("calls with buffers of their own {}, longest flash {}", self.aside, self.most_flash));
         lines
     }
@@ -179,6 +186,7 @@ impl Tally {
         missing.extend(self.address_edges.missing());
         missing.extend(self.half_bytes.missing());
         missing.extend(self.running.missing());
+        missing.extend(self.silences.missing());
         missing
     }
 }

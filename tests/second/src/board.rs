@@ -2,12 +2,15 @@
 
 use crate::model::*;
 use crate::sums::*;
+use crate::tally::*;
 
 /// What a received frame is to this board.
 enum Verdict {
     Reset,
     ResetAddress,
     Ignored,
+    /// RS485: silence, and why.
+    Dropped(u8),
     BadTransfer,
     BadCrc,
     Command,
@@ -51,6 +54,7 @@ pub fn receive(
             Answer::only(1)
         }
         Verdict::Ignored => Answer::only(1),
+        Verdict::Dropped(number) => Answer::only(number),
         Verdict::BadTransfer => deliver(p, s, out, frame, status(INVALID_TRANSFER)),
         Verdict::BadCrc => deliver(p, s, out, frame, status(INVALID_CRC)),
         Verdict::Command => {
@@ -58,6 +62,21 @@ pub fn receive(
             deliver(p, s, out, frame, outcome)
         }
     }
+}
+
+/// A received frame, counted in the tally by its number.
+pub fn receive_tally(
+    p: &Profile,
+    s: &mut State,
+    flash: &mut [u8],
+    out: &mut [u8],
+    address: u8,
+    frame: &[u8],
+    tally: &mut Tally,
+) -> Answer {
+    let answer = receive(p, s, flash, out, address, frame);
+    tally.count(answer.number);
+    answer
 }
 
 /// An I2C read at an address.
@@ -136,12 +155,22 @@ fn verdict_i2c(p: &Profile, s: &State, address: u8, frame: &[u8]) -> Verdict {
     Verdict::Command
 }
 
+/// Short, long, CRC, foreign, in this order. Another general call is none of them: 0 is never a foreign address.
 fn verdict_rs485(p: &Profile, s: &State, frame: &[u8]) -> Verdict {
-    if frame.len() < 4 || frame.len() > p.m as usize {
+    if frame.len() < 4 {
+        return Verdict::Dropped(FRAME_SHORT);
+    }
+    if frame.len() > p.m as usize {
+        return Verdict::Dropped(FRAME_LONG);
+    }
+    if !crc16_right(frame) {
+        return Verdict::Dropped(FRAME_CRC);
+    }
+    if frame[0] == 0 {
         return Verdict::Ignored;
     }
-    if !crc16_right(frame) || !hears(s, frame[0]) {
-        return Verdict::Ignored;
+    if !hears(s, frame[0]) {
+        return Verdict::Dropped(FRAME_FOREIGN);
     }
     Verdict::Command
 }

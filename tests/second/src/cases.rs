@@ -3,7 +3,9 @@
 use rules::check::{framed, general_frame, plain_profile, some_new_address, write_frame};
 use rules::model::*;
 use rules::rng::Rng;
-use rules::script::{hex, Runner};
+use rules::script::{hex, tally_text, Runner};
+use rules::silences::{any_tally, judged, silent_frame};
+use rules::tally::Tally;
 
 pub const BUSES: [Bus; 2] = [Bus::I2c, Bus::Rs485];
 
@@ -13,6 +15,9 @@ pub struct Sheet {
     pub cases: String,
     pub expected: String,
     pub runner: Runner,
+    /// If there is one, it decides which received frames are counted in the tally. It draws for nothing else that is already
+    /// there, so that the rest of a seed's list doesn't depend on it.
+    pub counting: Option<Rng>,
 }
 
 pub fn bus_number(bus: Bus) -> u8 {
@@ -90,8 +95,20 @@ impl Sheet {
         self.line(&format!("B {n}"));
     }
 
+    pub fn tally(&mut self, tally: &Tally) {
+        self.line(&format!("K {}", tally_text(tally)));
+    }
+
     pub fn frame(&mut self, address: u8, frame: &[u8]) {
+        if self.counting.as_mut().is_some_and(|rng| rng.percent(50)) {
+            return self.counted(address, frame);
+        }
         self.line(&format!("R {address} {}", hex(frame)));
+    }
+
+    /// A received frame, counted in the tally.
+    pub fn counted(&mut self, address: u8, frame: &[u8]) {
+        self.line(&format!("C {address} {}", hex(frame)));
     }
 
     pub fn read(&mut self, address: u8) {
@@ -208,9 +225,10 @@ pub fn reply(bus: Bus, address: u8, status: u8, results: &[u8]) -> Vec<u8> {
 pub fn random(seed: u64, lists: u64) -> Sheet {
     let mut sheet = Sheet::default();
     for list in 0..lists {
-        let mut rng = Rng::new(seed.wrapping_mul(0x0100_0000_01b3) ^ (list << 20));
+        let seed_of_list = seed.wrapping_mul(0x0100_0000_01b3) ^ (list << 20);
         sheet.note(&format!("random list {list} of seed {seed}"));
-        random_list(&mut sheet, &mut rng);
+        sheet.counting = Some(Rng::new(!seed_of_list));
+        random_list(&mut sheet, &mut Rng::new(seed_of_list));
     }
     sheet
 }
@@ -221,6 +239,7 @@ fn random_list(sheet: &mut Sheet, rng: &mut Rng) {
     random_setup(sheet, rng, &p);
     let calls = if p.s > 10_000 { 12 } else { 15 + rng.below(60) };
     for _ in 0..calls {
+        random_silence(sheet, &p);
         match rng.below(100) {
             0..=85 => random_board_call(sheet, rng, &p, &image),
             86..=89 => random_encode(sheet, rng),
@@ -229,6 +248,26 @@ fn random_list(sheet: &mut Sheet, rng: &mut Rng) {
             97 => random_version(sheet, rng),
             _ => random_change(sheet, rng, &p),
         }
+    }
+}
+
+/// Now and then a tally near its ends, and an RS485 frame that gets silence: it changes nothing for the calls after it.
+fn random_silence(sheet: &mut Sheet, p: &Profile) {
+    let Some(rng) = sheet.counting.as_mut() else {
+        return;
+    };
+    let tally = if rng.percent(2) { Some(any_tally(rng)) } else { None };
+    let own = match sheet.runner.state.own {
+        Own::DefaultRange => 8 + rng.byte() % 8,
+        Own::Address(address) => address,
+    };
+    let frame = silent_frame(rng, p, own);
+    let wanted = rng.percent(12) && p.bus == Bus::Rs485;
+    if let Some(tally) = tally {
+        sheet.tally(&tally);
+    }
+    if wanted && judged(p, &sheet.runner.state, own, &frame) >= 15 {
+        sheet.frame(own, &frame);
     }
 }
 

@@ -7,6 +7,10 @@
 //! bytes stand in flash; every other byte is as just before; the same bytes
 //! accepted again since an earlier finalize give count 0.
 //!
+//! Of numbers and tally (request W3), after each frame: the number is the one
+//! that `silences` judges, and each counter is what its start and the numbers
+//! since make it.
+//!
 //! Of addresses (request W1), after each call: no reserved address is the own
 //! one; the own address changes by an OK to set address and by general calls
 //! only; on I2C a reply is read at the address that its frame went to, the OK
@@ -19,7 +23,9 @@ use crate::master::{self, Request};
 use crate::model::*;
 use crate::rng::Rng;
 use crate::running;
+use crate::silences::{self, judged, Watched};
 use crate::sums::{push_crc16, push_crc8};
+use crate::tally::Tally;
 use crate::total;
 
 #[derive(Clone, Debug)]
@@ -42,6 +48,7 @@ pub struct Pair {
     state: State,
     flash: Vec<u8>,
     ledger: Ledger,
+    watched: Watched,
     finished: Vec<Upload>,
     pub commits: u64,
     pub finalizes: u64,
@@ -66,6 +73,7 @@ impl Pair {
             state: State::fresh(),
             flash,
             ledger,
+            watched: Watched::new(Tally::default()),
             finished: Vec::new(),
             commits: 0,
             finalizes: 0,
@@ -78,7 +86,9 @@ impl Pair {
     /// One call on the board, entered in the ledger, with all demands tested.
     pub fn call(&mut self, call: &Call) -> Result<(), String> {
         let before = (self.state.clone(), self.ledger.count, fingerprint(&self.flash));
+        let tally = self.watched.tally;
         let (seen, answer, out) = self.run(call);
+        self.numbers(&before.0, tally, seen, answer.number, out.len())?;
         let reply = out.get(..answer.len).unwrap_or(&[]);
         let event = self.ledger.enter(&self.profile, seen, answer.number, reply);
         demand(self.flash == self.ledger.copy, "flash differs from the ledger's copy")?;
@@ -98,7 +108,8 @@ impl Pair {
             Call::Frame { address, frame, room } => {
                 let mut out = vec![0; *room];
                 let (p, s, flash) = (&self.profile, &mut self.state, &mut self.flash);
-                let answer = board::receive(p, s, flash, &mut out, *address, frame);
+                let tally = &mut self.watched.tally;
+                let answer = board::receive_tally(p, s, flash, &mut out, *address, frame, tally);
                 (Seen::Frame { address: *address, frame }, answer, out)
             }
             Call::Read { address, room } => {
@@ -107,6 +118,17 @@ impl Pair {
                 (Seen::Read { address: *address }, answer, out)
             }
         }
+    }
+
+    /// The number of a frame is the judged one, and the tally what the numbers make it. A read counts nothing.
+    fn numbers(&mut self, before: &State, tally: Tally, seen: Seen, number: u8, room: usize) -> Result<(), String> {
+        let Seen::Frame { address, frame } = seen else {
+            return demand(self.watched.tally == tally, "a read was counted");
+        };
+        let refused = refusal(&self.profile, before, self.flash.len(), room);
+        let due = refused.unwrap_or_else(|| judged(&self.profile, before, address, frame));
+        demand(number == due, &format!("number {number}, judged {due}"))?;
+        self.watched.after(self.profile.bus, tally, number)
     }
 
     /// While not running the state's upload is the ledger's.
@@ -483,6 +505,7 @@ pub fn random(seed: u64, lists: u64) -> Result<[u64; 6], String> {
         let size = profile.s as usize;
         let image = if rng.percent(40) { vec![0xff; size] } else { rng.bytes(size) };
         let mut pair = Pair::new(profile, flash);
+        pair.watched = Watched::new(silences::any_tally(&mut rng));
         for step in 0..10 + rng.below(50) {
             let call = random_call(&mut rng, &pair, &image);
             pair.call(&call).map_err(|e| format!("{e}; list {list}, call {step}: {call:?}"))?;
@@ -579,6 +602,7 @@ pub fn all(lists: u64, depth: u32) -> Result<Vec<String>, String> {
     report.push(format!("master against board: {} requests", round_trip()?));
     report.push(format!("new addresses, encoder against board: {}", new_addresses()?));
     report.push(running::compare(4, lists)?);
+    report.push(silences::compare(6, lists / 2)?);
     report.push(format!("all lists of up to {depth} calls: {} calls", exhaustive(depth)?));
     let [calls, commits, finalizes, repeats, moves, reserved] = random(1, lists)?;
     report.push(format!(

@@ -2,12 +2,14 @@
 //!
 //! `model` profile, state, argument table, reserved addresses and the refusals
 //! of board calls; `sums` both CRCs by half bytes, `bits` the same bit by bit;
-//! `board` received frame and I2C read; `master` encoder, decoder, two reads,
-//! version rule, reset of a running application; `ledger` the ledger of demand
-//! 3; `script` reads case files and answers them; `check` compares board and
-//! ledger over lists of calls; `half_bytes` compares `sums` with `bits`;
-//! `running` sends the reset of a running application to boards; `total` gives
-//! every function any input; `rng` is the generator of random numbers.
+//! `tally` the counters of received frames; `board` received frame and I2C
+//! read; `master` encoder, decoder, two reads, version rule, reset of a running
+//! application; `ledger` the ledger of demand 3; `script` reads case files and
+//! answers them; `check` compares board and ledger over lists of calls;
+//! `half_bytes` compares `sums` with `bits`; `running` sends the reset of a
+//! running application to boards; `silences` judges once more why a frame got
+//! silence, and what the tally came to; `total` gives every function any input;
+//! `rng` is the generator of random numbers.
 
 pub mod bits;
 pub mod board;
@@ -19,5 +21,7 @@ pub mod model;
 pub mod rng;
 pub mod running;
 pub mod script;
+pub mod silences;
 pub mod sums;
+pub mod tally;
 pub mod total;

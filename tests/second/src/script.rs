@@ -3,22 +3,24 @@
 use crate::board;
 use crate::master::{self, Request};
 use crate::model::*;
+use crate::tally::Tally;
 
 pub const UNTOUCHED: u8 = 0xa5;
 pub const MOST_BYTES: usize = 600;
 const MOST_NUMBER: u64 = 4_294_967_295;
 
-/// The standing parts of a case file: profile, flash, state, output room.
+/// The standing parts of a case file: profile, flash, state, output room, tally.
 pub struct Runner {
     pub profile: Option<Profile>,
     pub flash: Option<Vec<u8>>,
     pub state: State,
     pub room: usize,
+    pub tally: Tally,
 }
 
 impl Default for Runner {
     fn default() -> Runner {
-        Runner { profile: None, flash: None, state: State::fresh(), room: 256 }
+        Runner { profile: None, flash: None, state: State::fresh(), room: 256, tally: Tally::default() }
     }
 }
 
@@ -39,7 +41,9 @@ impl Runner {
             "Z" => self.set_fresh(rest).map(|()| None),
             "S" => self.set_state(rest).map(|()| None),
             "B" => self.set_room(rest).map(|()| None),
+            "K" => self.set_tally(rest).map(|()| None),
             "R" => self.receive(rest).map(Some),
+            "C" => self.receive_tally(rest).map(Some),
             "I" => self.read(rest).map(Some),
             "E" => self.encode(rest).map(Some),
             "D" => decode(rest).map(Some),
@@ -105,11 +109,28 @@ impl Runner {
         Ok(())
     }
 
+    fn set_tally(&mut self, f: Fields) -> Result<(), String> {
+        count_fields(f, 5)?;
+        let counter = |k: usize| number("counter", f[k], 65_535).map(|n| n as u16);
+        self.tally = Tally::of([counter(0)?, counter(1)?, counter(2)?, counter(3)?, counter(4)?]);
+        Ok(())
+    }
+
     fn receive(&mut self, f: Fields) -> Result<String, String> {
-        count_fields(f, 2)?;
-        let address = number("address", f[0], 255)? as u8;
-        let frame = bytes("frame", f[1], MOST_BYTES)?;
+        let (address, frame) = received(f)?;
         self.board_call('R', |p, s, flash, out| board::receive(p, s, flash, out, address, &frame))
+    }
+
+    /// Its line ends with the tally after the call.
+    fn receive_tally(&mut self, f: Fields) -> Result<String, String> {
+        let (address, frame) = received(f)?;
+        let mut tally = self.tally;
+        let counted = |p: &Profile, s: &mut State, flash: &mut [u8], out: &mut [u8]| {
+            board::receive_tally(p, s, flash, out, address, &frame, &mut tally)
+        };
+        let line = self.board_call('C', counted)?;
+        self.tally = tally;
+        Ok(format!("{line} {}", tally_text(&tally)))
     }
 
     fn read(&mut self, f: Fields) -> Result<String, String> {
@@ -172,6 +193,12 @@ impl Runner {
     }
 }
 
+/// The fields of a received frame.
+fn received(f: Fields) -> Result<(u8, Vec<u8>), String> {
+    count_fields(f, 2)?;
+    Ok((number("address", f[0], 255)? as u8, bytes("frame", f[1], MOST_BYTES)?))
+}
+
 fn decode(f: Fields) -> Result<String, String> {
     count_fields(f, 5)?;
     let bus = bus(f[0])?;
@@ -223,6 +250,11 @@ fn state_text(s: &State) -> String {
         hex(s.waiting_bytes()),
         hex(s.last_reply()),
     )
+}
+
+/// The five counters: short, long, CRC, foreign, answered.
+pub fn tally_text(tally: &Tally) -> String {
+    tally.counters().map(|n| n.to_string()).join(" ")
 }
 
 /// FNV-1a, 64 bits.
@@ -351,6 +383,25 @@ mod tests {
         let (output, errors) = answer_all(text);
         assert!(errors.is_empty());
         assert!(output.starts_with("R 0 0002020223 256 0 0 0 0 - 0002020223 "));
+    }
+
+    #[test]
+    fn tally_lines() {
+        let board = ["P 1 32 64 0 7 16 19 3 -", "F 64 0 255"];
+        let calls = ["C 0 -", "R 0 -", "C 0 10000c70", "K 65535 65534 0 0 9", "Z", "C 9 00468042", "C 0 -", "C 0 08000670"];
+        let (output, errors) = answer_all([&board[..], &calls].concat().join("\n").as_bytes());
+        assert!(errors.is_empty());
+        let fields = |line: &str| line.split(' ').map(str::to_string).collect::<Vec<String>>();
+        let lines: Vec<Vec<String>> = output.lines().map(fields).collect();
+        let shown = |k: usize| format!("{} {}", lines[k][..2].join(" "), lines[k][11..].join(" "));
+        let wanted = ["C 15 1 1 0 0 0 0", "R 15 1", "C 18 1 1 0 0 1 0", "C 1 1 65535 65534 0 0 9"];
+        assert_eq!([0, 1, 2, 3].map(shown), wanted);
+        assert_eq!([4, 5].map(shown), ["C 15 1 65535 65534 0 0 9", "C 0 1 65535 65534 0 0 10"]);
+        let bad = ["K 1 2 3 4", "K 1 2 3 4 65536", "K 1 2 3 4 5 6", "C 0", "C 256 00", "C 0 0", "C 0 00 00"];
+        let (output, errors) = answer_all([&board[..], &bad, &["C 0 -"]].concat().join("\n").as_bytes());
+        assert_eq!(errors.len(), bad.len());
+        assert!(output.starts_with("C 15 ") && output.ends_with(" 1 1 0 0 0 0\n"));
+        assert_eq!(answer_all(b"C 0 -\nK 0 0 0 0 0\n").1.len(), 1);
     }
 
     #[test]

@@ -6,6 +6,7 @@ use crate::check::{demand, framed, plain_profile, write_frame};
 use crate::master::{self, Request};
 use crate::model::*;
 use crate::rng::Rng;
+use crate::silences::any_tally;
 
 /// Any input gives an answer: random profiles, states, flash lengths, rooms,
 /// frames and replies, most of them out of range.
@@ -19,13 +20,18 @@ pub fn any_input(seed: u64, rounds: u64) -> Result<u64, String> {
         let length = rng.of(&[0, 1, 2, 3, 4, 5, 8, 32, 33, 64, 256, 257, 300]) as usize;
         let frame = any_frame(&mut rng, &p, length);
         let given = (s.clone(), flash.clone());
-        let answer = board::receive(&p, &mut s, &mut flash, &mut out, 8, &frame);
+        let mut tally = any_tally(&mut rng);
+        let before = tally;
+        let answer = board::receive_tally(&p, &mut s, &mut flash, &mut out, 8, &frame, &mut tally);
+        let known = matches!(answer.number, 0..=5) || p.bus == Bus::Rs485 && matches!(answer.number, 15..=18);
+        demand(known, "a number that no received frame gets")?;
+        demand(tally == before || matches!(answer.number, 0 | 15..=18), "a frame without a counter was counted")?;
         let rest = out.get(answer.len..).unwrap_or(&[]);
         demand(rest.iter().all(|&byte| byte == 0xa5), "bytes after the reply were touched")?;
         demand((answer.number == 0) == (answer.len > 0), "number 0 and a reply go together")?;
         demand(answer.number < 2 || (s, flash) == given, "a refused call changed something")?;
         any_master(&mut rng, &p, &frame)?;
-        any_ledger(&mut rng, &p, &frame);
+        any_ledger(&mut rng, &p, &frame)?;
     }
     Ok(rounds)
 }
@@ -94,8 +100,8 @@ fn any_version(rng: &mut Rng, p: &Profile) -> Result<(), String> {
     demand(made.number != 0 || running, "a reset for a version that isn't running")
 }
 
-/// The ledger takes nonsense too.
-fn any_ledger(rng: &mut Rng, p: &Profile, frame: &[u8]) {
+/// The ledger takes nonsense too. Numbers from 2 on leave it as it is, 15 to 18 among them.
+fn any_ledger(rng: &mut Rng, p: &Profile, frame: &[u8]) -> Result<(), String> {
     let mut ledger = Ledger::new(&[0xff; 100]);
     for _ in 0..3 {
         let reply = rng.bytes(4).iter().map(|byte| byte & 1).collect::<Vec<u8>>();
@@ -103,5 +109,12 @@ fn any_ledger(rng: &mut Rng, p: &Profile, frame: &[u8]) {
         ledger.enter(p, seen, rng.byte() & 1, &reply);
         ledger.enter(p, Seen::Frame { address: 8, frame: &[8, 7, 0, 0] }, 0, &reply);
         ledger.enter(p, Seen::Read { address: 8 }, 0, &reply);
+        let given = ledger.clone();
+        let number = rng.of(&[2, 3, 4, 5, 15, 16, 17, 18]) as u8;
+        for bytes in [frame, &[8, 7, 0, 0], &[0x06], &[0x00, 0x46, 0x80, 0x42]] {
+            ledger.enter(p, Seen::Frame { address: 0, frame: bytes }, number, &reply);
+        }
+        demand(ledger == given, "a number from 2 on changed the ledger")?;
     }
+    Ok(())
 }

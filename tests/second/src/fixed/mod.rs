@@ -9,6 +9,7 @@ mod master;
 mod refusals;
 mod reserved;
 mod running;
+mod silences;
 mod uploads;
 mod writes;
 
@@ -33,6 +34,7 @@ pub fn all() -> Sheet {
     master::two_reads(&mut sheet);
     master::versions(&mut sheet);
     running::running_applications(&mut sheet);
+    silences::silences(&mut sheet);
     append_random(&mut sheet);
     sheet
 }
