@@ -1,5 +1,6 @@
 // The fields of a line, by its letter: numbers, then byte strings.
 use state::State;
+use tally::Tally;
 use text::read::Field;
 use text::read::is_read;
 use text::read::read_hex;
@@ -25,10 +26,11 @@ fn count(letter: u8) -> usize
 {
     match letter {
         b'Z' => 0,
-        b'B' | b'R' | b'I' => 1,
+        b'B' | b'R' | b'C' | b'I' => 1,
         b'T' | b'V' => 2,
         b'F' => 3,
         b'D' | b'A' => 4,
+        b'K' => 5,
         b'S' | b'E' => 6,
         _ => 8,
     }
@@ -38,9 +40,10 @@ fn count(letter: u8) -> usize
 fn largest(letter: u8) -> usize {
     match letter {
         b'P' | b'E' | b'D' | b'A' => 1,
-        b'R' | b'I' | b'V' => 255,
+        b'R' | b'C' | b'I' | b'V' => 255,
         b'S' => 256,
         b'B' => 512,
+        b'K' => Tally::LARGEST_COUNT as usize,
         b'F' => 131072,
         _ => MOST as usize,
     }
@@ -54,6 +57,7 @@ fn in_range(letter: u8, n: [usize; 8]) -> bool {
         b'D' => n[2] < 256,
         b'V' => n[1] < 256,
         b'A' => (n[2] | n[3]) < 256,
+        b'K' => (n[1] | n[2] | n[3] | n[4]) <= Tally::LARGEST_COUNT as usize,
         _ => true,
     }
 }
@@ -61,7 +65,7 @@ fn in_range(letter: u8, n: [usize; 8]) -> bool {
 // How many byte strings the line of a letter has.
 fn strings(letter: u8) -> usize {
     match letter {
-        b'P' | b'R' | b'E' | b'D' => 1,
+        b'P' | b'R' | b'C' | b'E' | b'D' => 1,
         b'S' | b'T' => 2,
         _ => 0,
     }

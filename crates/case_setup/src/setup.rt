@@ -1,4 +1,4 @@
-// What the lines of a case file have set, and the lines that set it: P, F, Z, S and B.
+// What the lines of a case file have set, and the lines that set it: P, F, Z, S, B and K.
 use crate::fields::Fields;
 use profile::Profile;
 use rules::kinds::Address;
@@ -6,10 +6,12 @@ use rules::kinds::Bus;
 use state::Last;
 use state::State;
 use state::Upload;
+use tally::Tally;
 
 pub struct Setup {
     pub profile: Profile,
     pub state: State,
+    pub tally: Tally,
     // the lent flash is the first so many bytes of the flash array
     pub flashlen: usize,
     // and the lent output the first so many of the output array
@@ -35,11 +37,12 @@ fn no_profile() -> Profile {
 }
 
 impl Setup {
-    // A file starts with the fresh state and an output of 256 bytes.
+    // A file starts with the fresh state, an output of 256 bytes and a tally of zeros.
     pub fn start() -> Self {
         Self {
             profile: no_profile(),
             state: State::fresh(),
+            tally: Tally::cleared(),
             flashlen: 0,
             room: 256,
             profiled: false,
@@ -49,6 +52,11 @@ impl Setup {
 
     pub fn with_state(mut self, state: State) -> Self {
         self.state = state;
+        self
+    }
+
+    pub fn with_tally(mut self, tally: Tally) -> Self {
+        self.tally = tally;
         self
     }
 
@@ -69,7 +77,7 @@ impl Setup {
         self
     }
 
-    // After a good line that sets something. A P, F, Z, S or B line; the bytes of a flash are filled elsewhere.
+    // After a good line that sets something. A P, F, Z, S, K or B line; the bytes of a flash are filled elsewhere.
     pub fn after(self, letter: u8, f: Fields) -> Self {
         let n = f.numbers;
         match letter {
@@ -77,6 +85,7 @@ impl Setup {
             b'F' => self.with_flash(n[0]),
             b'Z' => self.with_state(State::fresh()),
             b'S' => self.with_state(state_of(f)),
+            b'K' => self.with_tally(tally_of(f)),
             _ => self.with_room(n[0]),
         }
     }
@@ -128,6 +137,23 @@ fn profile_of(f: Fields) -> Profile {
         version: byte(n[7]),
         serial,
         seriallen: f.firstlen,
+    }
+}
+
+// A number that is at most 65,535.
+fn counter(n: usize) -> u16 {
+    (n % 65536) as u16
+}
+
+// K short long crc foreign answered
+fn tally_of(f: Fields) -> Tally {
+    let n = f.numbers;
+    Tally {
+        short: counter(n[0]),
+        long: counter(n[1]),
+        sum: counter(n[2]),
+        foreign: counter(n[3]),
+        answered: counter(n[4]),
     }
 }
 

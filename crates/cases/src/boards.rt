@@ -1,4 +1,4 @@
-// The lines of board calls, R and I, and their answer: number, reply, state and flash.
+// The lines of board calls, R, C and I, and their answer: number, reply, state and flash.
 use answer::Answer;
 use case_setup::answers::UNTOUCHED;
 use case_setup::answers::put_end;
@@ -15,6 +15,8 @@ use numbers::board_number;
 use numbers::reply_length;
 use rules::kinds::Address;
 use state::State;
+use tally::Tally;
+use tally::counted;
 use text::hash::fnv1a;
 use text::part::first;
 use text::part::within;
@@ -63,11 +65,23 @@ fn put_answer(letter: u8, answer: Answer, reply: &[u8; 512], room: usize, flash:
     put_state(answer.state);
     put_hash(flash);
     put_number(untouched(first(reply, room), made));
-    put_end();
 }
 
-// R address frame
-pub fn receive(f: Fields, setup: Setup, flash: &mut [u8]) -> State {
+// short long crc foreign answered
+fn put_tally(t: Tally) {
+    put_numbers(
+        &[
+            t.short as usize,
+            t.long as usize,
+            t.sum as usize,
+            t.foreign as usize,
+            t.answered as usize,
+        ],
+    );
+}
+
+// A received frame, and its answer under this letter; the line goes on.
+fn put_received(letter: u8, f: Fields, setup: Setup, flash: &mut [u8]) -> Answer {
     let n = f.numbers;
     let frame = f.first;
     let mut reply = [UNTOUCHED; 512];
@@ -81,8 +95,25 @@ pub fn receive(f: Fields, setup: Setup, flash: &mut [u8]) -> State {
         &mut flash[..len],
         &mut reply[..room],
     );
-    put_answer(b'R', answer, &reply, room, first(flash, len));
+    put_answer(letter, answer, &reply, room, first(flash, len));
+    answer
+}
+
+// R address frame
+pub fn receive(f: Fields, setup: Setup, flash: &mut [u8]) -> State {
+    let answer = put_received(b'R', f, setup, flash);
+    put_end();
     answer.state
+}
+
+// C address frame: the same, counted
+pub fn receive_counted(f: Fields, setup: Setup, flash: &mut [u8]) -> Setup {
+    let answer = put_received(b'C', f, setup, flash);
+    let outcome = answer.outcome;
+    let tally = counted(setup.tally, outcome);
+    put_tally(tally);
+    put_end();
+    setup.with_state(answer.state).with_tally(tally)
 }
 
 // I address
@@ -99,5 +130,6 @@ pub fn read(f: Fields, setup: Setup, flash: &[u8]) -> State {
         &mut reply[..room],
     );
     put_answer(b'I', answer, &reply, room, lent);
+    put_end();
     answer.state
 }

@@ -80,6 +80,7 @@ fn act(letter: u8, f: Fields, setup: Setup, flash: &mut [u8]) -> Setup {
     let n = f.numbers;
     match letter {
         b'R' => setup.with_state(boards::receive(f, setup, flash)),
+        b'C' => boards::receive_counted(f, setup, flash),
         b'I' => setup.with_state(boards::read(f, setup, flash)),
         b'E' | b'D' | b'T' | b'V' | b'A' => {
             call_master(letter, f, setup.room);
@@ -96,7 +97,20 @@ fn act(letter: u8, f: Fields, setup: Setup, flash: &mut [u8]) -> Setup {
 // Whether a letter begins a line.
 fn is_letter(letter: u8) -> bool {
     match letter {
-        b'P' | b'F' | b'Z' | b'S' | b'B' | b'R' | b'I' | b'E' | b'D' | b'T' | b'V' | b'A' => true,
+        b'P'
+        | b'F'
+        | b'Z'
+        | b'S'
+        | b'K'
+        | b'B'
+        | b'R'
+        | b'C'
+        | b'I'
+        | b'E'
+        | b'D'
+        | b'T'
+        | b'V'
+        | b'A' => true,
         _ => false,
     }
 }
@@ -114,7 +128,7 @@ fn judge(line: &[u8], letter: u8, good: bool, setup: Setup) -> Said {
     if next_field(line, 0) != 1 || !is_letter(letter) {
         return Said::Unknown;
     }
-    if (letter == b'R' || letter == b'I') && !(setup.profiled && setup.flashed) {
+    if (letter == b'R' || letter == b'C' || letter == b'I') && !(setup.profiled && setup.flashed) {
         return Said::Early;
     }
     if good { Said::Good } else { Said::Wrong }
