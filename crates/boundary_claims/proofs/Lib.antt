@@ -3,3 +3,4 @@ pub mod Refused
 pub mod Unreserved
 pub mod Meets
 pub mod Resets
+pub mod Tallies

@@ -2,3 +2,4 @@
 pub mod Calls
 pub mod Met
 pub mod Resets
+pub mod Tallies
