@@ -17,7 +17,7 @@ use prog.Wp.{Heap, Calls, Loops, WpFn, Tables}
 use ghost.Atoms.{Atoms, sem}
 use contract.Monad.{Fun, fact}
 use contract.Running.{givenOf, tables, tablesOf}
-use types.Kit.{Given, Item, ‵, raw, some, later, _⊛_, ⋆, mean, _$_, _∵_, !, qed, by, move, keep, drop, pick, use1, use2, await, split}
+use types.Kit.{Given, Item, ‵, raw, some, later, _⊛_, ⋆, mean, _$_, _∵_, !, qed, by, move, keep, drop as discard, pick, use1, use2, await, split}
 use types.Kit.{join, fsplit, fsplit3, fjoin, fjoin3, feqL, feqI, suffices, frame, show, done}
 use types.Run.{look, look-raw, init, store-raw, forget, stop, hop, fld, from, load, addr, of-opd, assigns, and-then, no-more, land}
 use types.Run.{returns, enter, alloc1, alloc0, params1, pass1, pass0, free1, free0}
@@ -196,7 +196,7 @@ module _ {M : Type 1} (𝓤 : URA M) (H : Heap 𝓤) (A : Atoms 𝓤) (W : Given
       ∷ MutRef (named 3) κ₃ T.the-row ∷ []) x₇ u₇) ∷ []) ∵
       split ! $ move ! (1 ∷ []) $ split ! $ move ! (1 ∷ []) $ split ! $ move ! (1 ∷ []) $ split ! $
       move ! (5 ∷ []) $ fsplit ! $ move ! (1 ∷ []) $ fsplit ! $ move ! (1 ∷ []) $ fsplit ! $ move ! (1 ∷ []) $ fsplit ! $
-      move ! (1 ∷ []) $ fsplit ! $ move ! (1 ∷ []) $ fsplit ! $ move ! (1 ∷ []) $ fsplit ! $ fsplit3 ! $ drop ! $
+      move ! (1 ∷ []) $ fsplit ! $ move ! (1 ∷ []) $ fsplit ! $ move ! (1 ∷ []) $ fsplit ! $ fsplit3 ! $ discard ! $
       -- [obs; the borrow; true; what out, flash, bytes, address, s and p own; the tally's token; true; the other three]
       move ! (3 ∷ 2 ∷ []) $ fjoin ! $ move ! (3 ∷ 0 ∷ []) $ fjoin ! $ move ! (3 ∷ 0 ∷ []) $ fjoin ! $ move ! (3 ∷ 0 ∷ []) $ fjoin ! $
       move ! (3 ∷ 0 ∷ []) $ fjoin ! $ move ! (3 ∷ 0 ∷ []) $ fjoin ! $
@@ -211,7 +211,7 @@ module _ {M : Type 1} (𝓤 : URA M) (H : Heap 𝓤) (A : Atoms 𝓤) (W : Given
       ‵ (lasts board.ended (κ₀, (κ₁, (κ₂, tt))) x₆ z)
       ⊛ raw (fact 𝓤 (FrameAnswered s r (z .1 .1 .1 .1 .0) (z .1 .1 .1 .1 .1 .0) (out .now) rules verdict)))) (id⊢ 𝓤 _) $ pick ! (λ z.
       split ! $ move ! (1 ∷ []) $ heard ! (FrameAnswered s r (z .1 .1 .1 .1 .0) (z .1 .1 .1 .1 .1 .0) (out .now) rules verdict) (λ f.
-      fsplit ! $ drop ! $ fsplit ! $ drop ! $ fsplit ! $ drop ! $ fsplit ! $ drop ! $
+      fsplit ! $ discard ! $ fsplit ! $ discard ! $ fsplit ! $ discard ! $ fsplit ! $ discard ! $
       fsplit ! $ fsplit ! $ move ! (1 ∷ []) $ feqL ! (λ l₁. move ! (1 ∷ []) $ fsplit ! $ fsplit ! $ move ! (1 ∷ []) $ feqL ! (λ l₂.
       keep ! (2 ∷ 0 ∷ []) $
       show ! (λ (e : List ℕ × List ℕ). mean 𝓤 H A (Lasts e ⊛ raw (fact 𝓤 (Said r e)))) (z .1 .1 .1 .1 .0, z .1 .1 .1 .1 .1 .0) $
@@ -297,7 +297,7 @@ module _ {M : Type 1} (𝓤 : URA M) (H : Heap 𝓤) (A : Atoms 𝓤) (W : Given
         ⊛ raw (ensured 𝓤 H A counted.ended (counted.clauses 𝓤 H A at-mem run) tt (h, (r, tt)) tt n)))) (id⊢ 𝓤 _) $
         await ! tt $ pick ! (λ n. split ! $ move ! (1 ∷ []) $
         use1 W (raw (fact 𝓤 (n ≡ tallied h (number (r .outcome))))) (counted-of 𝓤 H A at-mem run h r n) $
-        heard ! (n ≡ tallied h (number (r .outcome))) (λ g. split ! $ drop ! $
+        heard ! (n ≡ tallied h (number (r .outcome))) (λ g. split ! $ discard ! $
         peeks ! T.the-row (Is T.the-row) (shows 𝓤 H A T.the-row) n (w ∷ []) (λ is-n.
         -- [what the new tally owns; the tally's cell; the open borrow; obs; auth; the answer; the tokens; the last bytes; _14; …]
         land ! (from ! (stop !)) (init ! 10 refl (LL.lawful T.the-type T′.the-laws 𝓤 H A W .typed n _ is-n .0)) $
