@@ -165,8 +165,8 @@ fn tell_advice(piece: usize) {
     say_piece(
         piece,
         b"    do: only reset brings the bootloader back
-|    do: send it whole
-|    do: send shorter frames, at most M bytes
+|    do: send it whole, without a break
+|    do: send shorter frames, with a gap between them; ask for M with: longest
 |    do: send the frame again; on RS485 a damaged frame is never answered
 |    do: see where this board listens, with: state
 |    do: send commands to the board's own address
@@ -180,9 +180,9 @@ pub fn say_look_for(piece: usize) {
     say_piece(
         piece,
         b"|a loose cable, or a break within the frame: a gap on the line cuts it in two
-|two frames run into one another without a gap, a wrong bit rate, or frames longer than M
-|a bad cable or connector, missing termination, or a wrong bit rate
-|a wrong address in the frame, or a board that has moved; frames for other boards of the bus are no fault
+|frames run into one another without a gap, a wrong bit rate, or frames longer than M
+|a bad cable or connector, missing termination, a wrong bit rate, or frames cut or run together
+|a wrong address, or a board that has moved; frames for other boards of the bus are no fault
 ",
     );
 }
