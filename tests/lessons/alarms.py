@@ -299,7 +299,8 @@ def raw_frame(board, rng):
 
 def make_line(board, rng, e):
     often = ["write"] * 8 + ["finalize"] * 3 + ["upload"] * 3 + ["damage"] * 4 + ["reset"] * 2 + ["send"] * 6
-    kind = rng.choice(often + ["start", "reset-address", "version", "read-again", "board", "flash", "application", "reset-running", "tally"])
+    seldom = ["start", "reset-address", "version", "read-again", "board", "flash", "application", "reset-running", "tally"]
+    kind = rng.choice(often + seldom)
     if board.running and rng.random() < 0.5:
         kind = rng.choice(["application", "damage", "damage", "version", "read-again", "reset-running", "reset-running", "send"])
     byte = rng.choice([0x00, 0x11, 0x22, 0xff])
