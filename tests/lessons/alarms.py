@@ -1,7 +1,7 @@
 #!/usr/bin/env python3
-"""Random scripts through the bench, its alarms held to a small board of our own in Python.
+"""Random scripts through the bench, its alarms, the numbers from 15 up and its tally held to a small board of our own in Python.
 
-The alarms are proved as functions; that the bench asks them about the right call, state and flash is tested here.
+The alarms and the count are proved as functions; that the bench asks them about the right call, state and flash is tested here.
     tests/lessons/alarms.py BENCH SEED SCRIPTS
 """
 import random
@@ -11,8 +11,30 @@ import sys
 import tempfile
 
 PAGE = 64
+LONGEST = 64
+DROPPED = (15, 16, 17, 18)
 ENDS = ("upload done", "holds the whole image", "partly uploaded", "not uploaded", "not begun")
 RESETS = ("the bootloader answers", "the bootloader runs already", "the application still runs", "no version came after", "no version came:")
+
+
+def crc8(data):
+    """x^8 + x^2 + x + 1, from 0xff."""
+    register = 0xff
+    for b in data:
+        register ^= b
+        for _ in range(8):
+            register = (register << 1) ^ (0x107 if register & 0x80 else 0)
+    return bytes([register])
+
+
+def crc16(data):
+    """As Modbus has it, the low byte first."""
+    register = 0xffff
+    for b in data:
+        register ^= b
+        for _ in range(8):
+            register = (register >> 1) ^ (0xa001 if register & 1 else 0)
+    return register.to_bytes(2, "little")
 
 
 class Board:
@@ -28,6 +50,10 @@ class Board:
         self.bus, self.size, self.offset = bus, size, offset
         self.fresh()
         self.last, self.answers = 0, False
+        self.clear_tally()
+
+    def clear_tally(self):
+        self.tally = {n: 0 for n in (0, *DROPPED)}
 
     def fresh(self):
         self.next, self.count, self.held, self.running, self.last = 0, 0, b"", False, 0
@@ -61,11 +87,11 @@ class Board:
         if self.running and self.answers and command == "version" and not damaged:
             self.answered = True
             return self.sent(0, 2), False
-        if self.running or damaged and self.bus == "rs485":
+        if self.running:
             self.silences += 1
             return None, False
         if damaged:
-            return self.replied(4, 0), False
+            return (self.dropped(17) if self.bus == "rs485" else self.replied(4, 0)), False
         if command == "start":
             self.running, self.held, self.last = True, b"", 0
             return None, False
@@ -75,7 +101,14 @@ class Board:
     def reply_length(self, results):
         return results + (3 if self.bus == "i2c" else 5)
 
+    def dropped(self, number):
+        """A frame without a reply, by its number from 15 up."""
+        self.silences += 1
+        self.tally[number] += 1
+        self.numbers.append(number)
+
     def replied(self, status, results):
+        self.tally[0] += 1
         self.last = self.reply_length(results) if self.bus == "i2c" else 0
         return self.sent(status, results)
 
@@ -95,10 +128,48 @@ class Board:
         damaged = self.strikes("byte", 1 if self.bus == "i2c" else 4)
         if reset and not damaged:
             self.fresh()
+        elif damaged and not self.running and self.bus == "rs485":
+            self.dropped(17)
         elif self.running or damaged:
             self.silences += 1
         else:
             self.last = 0
+
+    def judged(self, to, frame):
+        """A frame to a bootloader, perhaps not well made: its number, and the status of a reply."""
+        if self.bus == "rs485":
+            if len(frame) < 4:
+                return 15, None
+            if len(frame) > LONGEST:
+                return 16, None
+            if crc16(frame[:-2]) != frame[-2:]:
+                return 17, None
+            if frame[0] == 0:
+                return 1, None
+            return (0, 0 if len(frame) == 4 else 5) if 8 <= frame[0] <= 15 else (18, None)
+        if not 8 <= to <= 15:
+            return 1, None
+        if not 2 <= len(frame) <= LONGEST:
+            return 0, 3
+        if crc8(frame[:-1]) != frame[-1:]:
+            return 0, 4
+        return 0, 0 if len(frame) == 2 else 5
+
+    def raw(self, to, frame):
+        """A version request as it is, well made or not."""
+        byte = self.hit["byte"]
+        if self.strikes("byte", len(frame)):
+            frame[byte[0] - 1] ^= 0xff
+        number, status = self.judged(to, frame)
+        if self.running and self.answers and status == 0:
+            self.answered = True
+            self.sent(0, 2)
+        elif self.running or number == 1:
+            self.silences += 1
+        elif number:
+            self.dropped(number)
+        else:
+            self.replied(status, 0 if status else 2)
 
     def execute(self, command, data):
         if command == "write":
@@ -126,6 +197,7 @@ class Board:
 class Expected:
     def __init__(self):
         self.lost, self.waiting, self.unworn, self.end, self.silent = [], [], 0, None, 0
+        self.numbers, self.tally = [], None
 
 
 def lost(board, place, held):
@@ -194,16 +266,43 @@ def line(board, rng):
     """A line of a script, and what the bench must say after it."""
     e = Expected()
     silences = board.silences
+    board.numbers = e.numbers
     text = make_line(board, rng, e)
     e.silent = board.silences - silences
     return text, e
 
 
+def show_tally(board):
+    e = Expected()
+    e.tally = list(board.tally.values())
+    return "tally", e
+
+
+def raw_frame(board, rng):
+    """A version request to some address, sent as it is: whole, cut, damaged, or with arguments up to M or beyond it.
+
+    The address beside it, the frame, and the line.
+    """
+    to = rng.choice([8, 8, 9, 15, 16, 7, 42, 0])
+    change = rng.choice(["none", "none", "cut", "damaged", "long"])
+    head, crc, shortest = (bytes([to]), crc16, 4) if board.bus == "rs485" else (b"", crc8, 2)
+    length = rng.choice([LONGEST, LONGEST + 1, LONGEST + 60]) if change == "long" else shortest
+    frame = head + bytes([0]) + b"\x11" * (length - shortest)
+    frame = bytearray(frame + crc(frame))
+    if change == "cut":
+        del frame[rng.randint(len(head), len(frame) - 1):]
+    elif change == "damaged":
+        frame[-1] ^= rng.randint(1, 255)
+    shown = frame if head else bytes([to]) + frame
+    return to, frame, f"send {shown.hex()}"
+
+
 def make_line(board, rng, e):
-    often = ["write"] * 8 + ["finalize"] * 3 + ["upload"] * 3 + ["damage"] * 4 + ["reset"] * 2
-    kind = rng.choice(often + ["start", "reset-address", "version", "read-again", "board", "flash", "application", "reset-running"])
+    often = ["write"] * 8 + ["finalize"] * 3 + ["upload"] * 3 + ["damage"] * 4 + ["reset"] * 2 + ["send"] * 6
+    seldom = ["start", "reset-address", "version", "read-again", "board", "flash", "application", "reset-running", "tally"]
+    kind = rng.choice(often + seldom)
     if board.running and rng.random() < 0.5:
-        kind = rng.choice(["application", "damage", "damage", "version", "read-again", "reset-running", "reset-running"])
+        kind = rng.choice(["application", "damage", "damage", "version", "read-again", "reset-running", "reset-running", "send"])
     byte = rng.choice([0x00, 0x11, 0x22, 0xff])
     if kind == "board":
         place, held, offset = board.place(), board.held, board.offset
@@ -223,6 +322,13 @@ def make_line(board, rng, e):
             n, after = rng.choice([1, 1, n]), rng.choice([1, 1, after])
         board.hit[what] = (n, after)
         return f"damage {what} {n}" + (f" after {after}" if after else "")
+    if kind == "tally":
+        if rng.random() < 0.3:
+            board.clear_tally()
+            return "tally clear"
+        text, shown = show_tally(board)
+        e.tally = shown.tally
+        return text
     if kind == "application":
         board.answers, board.answered = rng.random() < 0.7, False
         return f"application {'answers' if board.answers else 'silent'}"
@@ -237,6 +343,9 @@ def make_line(board, rng, e):
         else:
             board.silences += 1
         text = "i2c-read"
+    elif kind == "send":
+        to, frame, text = raw_frame(board, rng)
+        board.raw(to, frame)
     elif kind == "reset-running":
         text = kind
         reset_running(board, e)
@@ -264,6 +373,8 @@ def said(text):
     e.waiting = [int(n) for n in re.findall(r"\*\* (?:OK, )?(\d+) bytes? still wait", text)]
     e.unworn = len(re.findall(r"\*\* 0 pages erased:", text))
     e.silent = len(re.findall(r"\*\* (?:no reply: |nothing to read)", text))
+    e.numbers = [int(n) for n in re.findall(r"^  number (1[5-8]), ", text, flags=re.M)]
+    e.tally = [int(n) for n in re.findall(r"^    (?:answered 0|1[5-8] [a-z ]+): (\d+)", text, flags=re.M)] or None
     ends = [w for w in ENDS + RESETS if w in text]
     e.end = ends[0] if len(ends) == 1 else (ends or None)
     return e
@@ -282,7 +393,7 @@ def main():
     seen = {}
     for k in range(scripts):
         board = Board(bytearray(b"\xff" * 131072))
-        steps = [line(board, rng) for _ in range(rng.randint(5, 40))]
+        steps = [line(board, rng) for _ in range(rng.randint(5, 40))] + [show_tally(board)]
         out, status = run(bench, [t for t, _ in steps])
         failed = any(e.end in ENDS[1:] for _, e in steps)
         alarmed = failed or board.silences or board.held or any(e.lost for _, e in steps)
@@ -293,6 +404,7 @@ def main():
         for i, ((text, e), chunk) in enumerate(zip(steps, chunks)):
             got = said(chunk)
             parts = [("lost", e.lost, got.lost), ("0 pages erased", e.unworn, got.unworn), ("end", e.end, got.end), ("silent", e.silent, got.silent)]
+            parts += [(f"number {n}", e.numbers.count(n), got.numbers.count(n)) for n in DROPPED] + [("tally", e.tally, got.tally)]
             if e.waiting is not None:
                 parts.append(("still wait", e.waiting, got.waiting))
             for name, want, have in parts:
@@ -307,7 +419,7 @@ def main():
         if len(chunks) != len(steps):
             sys.exit(f"script {k} of seed {seed}: {len(chunks)} lines of {len(steps)} were run")
     print(f"{scripts} scripts, alarms as expected: " + ", ".join(f"{n} {c}" for n, c in sorted(seen.items())))
-    missing = {"lost", "still wait", "0 pages erased", "silent", *ENDS, *RESETS} - set(seen)
+    missing = {"lost", "still wait", "0 pages erased", "silent", "tally", *(f"number {n}" for n in DROPPED), *ENDS, *RESETS} - set(seen)
     if missing and scripts >= 100:
         sys.exit(f"never seen: {missing}")
 

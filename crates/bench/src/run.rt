@@ -14,6 +14,7 @@ use bench_script::lines::Line;
 use bench_script::lines::is_comment;
 use bench_settings::setup;
 use bench_settings::shown;
+use bench_settings::tallies;
 use bench_words::Word;
 use bench_words::word_named;
 
@@ -48,6 +49,7 @@ fn run_word(d: Bench, word: Word, name: &[u8], s: &[u8], memory: &mut [u8]) -> B
     match word {
         Word::Setup(w) => setup::run_line(d, w, s, memory),
         Word::Show(w) => shown::run_line(d, w, s, memory),
+        Word::Tally => tallies::run_line(d, s),
         Word::Quit => quit(d, s),
         Word::Unknown => unknown(d, name),
         _ => run_request(d, word, s, memory),

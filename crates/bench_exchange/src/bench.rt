@@ -7,6 +7,7 @@ use profile::Profile;
 use rules::kinds::Address;
 use rules::kinds::Bus;
 use state::State;
+use tally::Tally;
 
 // Which byte is to be damaged, from 1, and how many frames or replies pass before that; byte 0 for none.
 pub struct Damage {
@@ -40,6 +41,8 @@ impl Damage {
 pub struct Bench {
     pub profile: Profile,
     pub state: State,
+    // the frames that this board has received, by their answers; no reset clears it
+    pub tally: Tally,
     // the application answers the version request while it runs; it has answered one since it runs
     pub answers: bool,
     pub answered: bool,
@@ -88,6 +91,7 @@ impl Bench {
         Bench {
             profile: default_profile(Bus::I2c),
             state: State::fresh(),
+            tally: Tally::cleared(),
             answers: false,
             answered: false,
             to: FIRST_ADDRESS,
@@ -120,6 +124,7 @@ impl Bench {
     pub fn with_board(mut self, p: Profile) -> Self {
         self.profile = p;
         self.state = State::fresh();
+        self.tally = Tally::cleared();
         self.answers = false;
         self.answered = false;
         self.to = FIRST_ADDRESS;
@@ -130,6 +135,11 @@ impl Bench {
     pub fn with_application(mut self, answers: bool) -> Self {
         self.answers = answers;
         self.answered = false;
+        self
+    }
+
+    pub fn with_tally(mut self, t: Tally) -> Self {
+        self.tally = t;
         self
     }
 

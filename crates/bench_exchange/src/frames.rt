@@ -23,6 +23,8 @@ use rules::kinds::Bus;
 use rules::kinds::Outcome;
 use rules::kinds::Verdict;
 use state::State;
+use tally::Tally;
+use tally::counted;
 
 // The bench after a request, what the master made of the reply, and the reply.
 pub struct Exchange {
@@ -110,11 +112,21 @@ fn is_application(by: Replier) -> bool {
     }
 }
 
+// The tally after a frame. What the application replies is no answer of the board's, and is not counted.
+fn tallied(t: Tally, by: Replier, outcome: Outcome) -> Tally {
+    match by {
+        Replier::Bootloader => counted(t, outcome),
+        Replier::Application => t,
+    }
+}
+
 // The bench after a call.
 fn after_call(d: Bench, c: Called) -> Bench {
     let by = c.by;
+    let outcome = c.outcome;
     d.exchanged(c.code, c.length, c.state)
         .after_application(is_application(by))
+        .with_tally(tallied(d.tally, by, outcome))
         .losing(c.lost)
 }
 

@@ -3,6 +3,7 @@ use crate::bench::Bench;
 use crate::frames::Exchange;
 use crate::frames::send;
 use crate::library;
+use crate::replies::Reply;
 use crate::replies::no_reply;
 use bench_memory::memory;
 use bench_memory::memory::FLASH;
@@ -10,6 +11,7 @@ use bench_memory::memory::IMAGE;
 use bench_output::min;
 use bench_wording::meaning;
 use bench_wording::reply::Asked;
+use bench_wording::reply::RequestResult;
 use bench_wording::reply::no_result;
 use bench_wording::reply::part;
 use rules::requests::Encoded;
@@ -111,13 +113,13 @@ pub fn upload_end(d: Bench, n: usize, memory: &[u8]) -> UploadEnd {
     library::upload_end(d.profile, n, memory)
 }
 
-// Whether a read gave the bytes of the image from one place to another.
-pub fn is_image(e: Exchange, from: usize, end: usize, memory: &[u8]) -> bool {
+// Whether a read, by its reply and result, gave the bytes of the image from one place to another.
+pub fn is_image(reply: Reply, r: RequestResult, from: usize, end: usize, memory: &[u8]) -> bool {
     let last = min(end, FLASH);
     let first = min(from, last);
-    let bytes = e.reply.bytes;
+    let bytes = reply.bytes;
     byte_slices::matches(
-        part(&bytes, e.result.start, e.result.len),
+        part(&bytes, r.start, r.len),
         memory::part(memory, IMAGE + first, last - first),
     )
 }

@@ -158,7 +158,7 @@ fn read_piece(d: Bench, at: usize, end: usize, memory: &mut [u8]) -> Sent {
         );
         return Sent { bench, fine: false };
     }
-    let fine = is_image(done, at, end, memory);
+    let fine = is_image(done.reply, done.result, at, end, memory);
     if !fine {
         tell(
             b"  ** read back: the bytes from address % on are not as sent **\n",

@@ -2,3 +2,4 @@
 mod boards;
 pub mod setup;
 pub mod shown;
+pub mod tallies;

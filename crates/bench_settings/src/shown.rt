@@ -174,6 +174,7 @@ fn show_help() {
   send ADDRESS BYTES                             a frame as it is, all in hexadecimal: send 08 00f3
   i2c-read [ADDRESS]                             read the last reply once more
   damage byte N | damage reply N  [after K]      of the next frame, of the next reply, or after K of them
+  tally | tally clear                            the frames that the board received, counted by their answers; set to 0
   state | map | say TEXT | help | quit | # a comment
 ",
     );

@@ -19,7 +19,7 @@ use rules::requests::Decoded;
 use rules::requests::Encoded;
 use rules::requests::Request;
 
-// A number with its meaning, and what to do about it. Piece n is number n's, up to 14.
+// A number with its meaning, and what to do about it. Piece n is number n's, up to 18.
 pub fn tell_number(n: usize) {
     if n == 40 {
         say(
@@ -45,6 +45,10 @@ pub fn tell_number(n: usize) {
 |  number 12, the status is above 5\n    do: ask again; the board may speak another protocol
 |  number 13, OK with fewer results than the command has\n    do: look at the board's version
 |  number 14, version not known\n    do: take a master that knows it
+|  number 15, the frame is too short, nothing to send
+|  number 16, the frame is too long, nothing to send
+|  number 17, wrong check sum in the frame, nothing to send
+|  number 18, foreign address in the frame, nothing to send
 ",
     );
 }
@@ -121,14 +125,12 @@ fn silent_command(code: usize) -> usize {
     }
 }
 
+// Why a frame that is answered 1 is ignored; 4 is another board's address on I2C. The reasons of RS485 have numbers of their own.
 fn ignored_for(r: Reason) -> usize {
     match r {
         Reason::Running => 0,
-        Reason::Short => 1,
-        Reason::Long => 2,
-        Reason::WrongSum => 3,
-        Reason::Foreign(_) => 4,
         Reason::OtherGeneral => 5,
+        _ => 4,
     }
 }
 
@@ -144,25 +146,58 @@ fn reason(v: Verdict, code: usize) -> usize {
 }
 
 // A silence that must not be taken for a dead board.
-fn tell_ignored(piece: usize) {
+fn tell_alarm(piece: usize) {
     say_piece(
         piece,
         b"  ** no reply: the application runs, the board is alive **
-    do: only reset brings the bootloader back
 |  ** no reply: the frame is shorter than any request, the board is alive **
-    do: send it whole
 |  ** no reply: the frame is longer than M, the board is alive **
-    do: send shorter frames
 |  ** no reply: the check sum is wrong, the board is alive **
-    do: send the frame again; on RS485 a damaged frame is never answered
 |  ** no reply: the address is another board's, this board is alive **
-    do: see where this board listens, with: state
 |  ** no reply: all boards take only reset and reset-address, the board is alive **
-    do: send commands to the board's own address
 |  ** no reply: the hardware type is another board's, this board is alive **
-    do: send this board's type, or type 0 for any
 ",
     );
+}
+
+// What to do about it.
+fn tell_advice(piece: usize) {
+    say_piece(
+        piece,
+        b"    do: only reset brings the bootloader back
+|    do: send it whole, without a break
+|    do: send shorter frames, with a gap between them; ask for M with: longest
+|    do: send the frame again; on RS485 a damaged frame is never answered
+|    do: see where this board listens, with: state
+|    do: send commands to the board's own address
+|    do: send this board's type, or type 0 for any
+",
+    );
+}
+
+// What a technician looks for on the line after frames that RS485 drops. Piece n is number 14 + n's.
+pub fn say_look_for(piece: usize) {
+    say_piece(
+        piece,
+        b"|a loose cable, or a break within the frame: a gap on the line cuts it in two
+|frames run into one another without a gap, a wrong bit rate, or frames longer than M
+|a bad cable or connector, missing termination, a wrong bit rate, or frames cut or run together
+|a wrong address, or a board that has moved; frames for other boards of the bus are no fault
+",
+    );
+}
+
+fn tell_ignored(piece: usize) {
+    tell_alarm(piece);
+    tell_advice(piece);
+}
+
+// The same for a frame that RS485 drops by a number of its own.
+fn tell_dropped(piece: usize) {
+    tell_alarm(piece);
+    say(b"    look for: ");
+    say_look_for(piece);
+    tell_advice(piece);
 }
 
 // A silence after something was done.
@@ -186,12 +221,32 @@ fn tell_silence(v: Verdict, code: usize) -> bool {
     false
 }
 
+// Which of the four frames that RS485 drops an answer tells; 0 for any other answer.
+fn dropped(o: Outcome) -> usize {
+    match o {
+        Outcome::FrameTooShort => 1,
+        Outcome::FrameTooLong => 2,
+        Outcome::FrameSumWrong => 3,
+        Outcome::FrameForeign => 4,
+        _ => 0,
+    }
+}
+
+// An answer by its number; a frame that RS485 drops is a silence too.
+fn tell_numbered(o: Outcome) {
+    tell_number(board_number(o) as usize);
+    let piece = dropped(o);
+    if 0 < piece {
+        tell_dropped(piece);
+    }
+}
+
 // A board call that made no reply; whether that must not be missed.
 pub fn tell_answer(o: Outcome, v: Verdict, code: usize) -> bool {
     match o {
         Outcome::Nothing => tell_silence(v, code),
         _ => {
-            tell_number(board_number(o) as usize);
+            tell_numbered(o);
             true
         }
     }

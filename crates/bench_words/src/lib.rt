@@ -43,6 +43,7 @@ pub enum PlainWord {
 pub enum Word {
     Setup(SetupWord),
     Show(ShowWord),
+    Tally,
     Upload,
     Call(CallWord),
     Plain(PlainWord),
@@ -56,6 +57,9 @@ fn rare_word(word: &[u8]) -> Word {
     }
     if is(word, b"application") {
         return Word::Setup(SetupWord::Application);
+    }
+    if is(word, b"tally") {
+        return Word::Tally;
     }
     if is(word, b"quit") {
         return Word::Quit;
