@@ -20,7 +20,7 @@ use Rattle.ledger.specs.Calls.{Call, Frame, Read, Board, Step, traced}
 use Rattle.demands.specs.Past.{Known, initially, after}
 use Rattle.demands.specs.Acceptance.{Unchanged}
 
--- a call refused by 2 or above gives back the very state, flash and buffers
+-- a call refused by 2 or above, W3's 15 to 18 among them, gives back the very state, flash and buffers; a tally is none of these
 abbrev pub RefusedUntouched : Type 0
 RefusedUntouched =
     (p : Profile) (s : State) (a : ℕ) (f d : List ℕ) (n : ℕ)

@@ -46,7 +46,7 @@ finishedCall bus address a = replied bus address (a .response) (a .state) (a .fl
 abbrev pub addressReset : State → State
 addressReset s = withLast (withAddress s DefaultRange) []
 
--- a call answered by a number of 2 or above: all untouched
+-- a number alone, all untouched: a refusal, or an ignored frame
 abbrev pub refused : ℕ → State → List ℕ → Called
 refused n s d = record { number = n; reply = []; state = s; flash = d }
 
