@@ -23,7 +23,8 @@ more-most : (counts : Bool) (x : ℕ) → x ≤ largestCount → more counts x �
 more-most true x h = omega arith
 more-most false x h = h
 
-more-min : (counts : Bool) (x o : ℕ) → x ≤ largestCount → min (more counts x + o) largestCount ≡ min (x + (cond counts 1 0 + o)) largestCount
+more-min : (counts : Bool) (x o : ℕ) → x ≤ largestCount
+    → min (more counts x + o) largestCount ≡ min (x + (cond counts 1 0 + o)) largestCount
 more-min true x o h = omega arith
 more-min false x o h = omega arith
 

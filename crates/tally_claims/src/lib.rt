@@ -16,5 +16,6 @@ pub fn code_counts()
 
 // A counter that wraps, reads that are counted, frames that are counted while running, and a tally that a reset clears: refuted.
 pub fn wrong_tallies()
-    ensures { λ _. ⌜ (TallyRight wraps → ⊥) × (TallyRight countsReads → ⊥) × (TallyRight countsRunning → ⊥) × (TallyRight resetClears → ⊥) ⌝ }
+    ensures { λ _. ⌜ (TallyRight wraps → ⊥) × (TallyRight countsReads → ⊥) × (TallyRight countsRunning → ⊥)
+        × (TallyRight resetClears → ⊥) ⌝ }
 {}

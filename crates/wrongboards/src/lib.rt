@@ -191,8 +191,8 @@ pub fn refuses_foreign_type()
     ensures { λ _. ⌜ (Demand2 refusesForeignType → ⊥) ⌝ }
 {}
 
-// W3: a board that says 1 to every ignored frame, one that tests the CRC before the length, one that calls another general call foreign, and
-// one that numbers frames while it runs: demand 2, a dropped frame gets the first of its numbers, and no other frame gets one.
+// W3: a board that says 1 to every ignored frame, one that tests the CRC before the length, one that calls another general call foreign,
+// and one that numbers frames while it runs: demand 2, a dropped frame gets the first of its numbers, and no other frame gets one.
 pub fn wrong_silences()
     ensures { λ _. ⌜ (Demand2 (numbersIgnored (λ f reason. 1)) → ⊥) × (Demand2 (numbersIgnored sumFirst) → ⊥)
         × (Demand2 (numbersIgnored (numberedSo 1 18)) → ⊥) × (Demand2 (numbersIgnored (numberedSo 18 1)) → ⊥) ⌝ }

@@ -92,7 +92,10 @@ returns-3 c =
     let j = k .before .before in
     let st = j .before .before .before .before in
     rw (← j .classify .ensures, k .v .given .1, c .ignored-outcome .ensures)
-    (record { called = ignored-effect (k .v .given .0 .0) (st .args .s) (st .args .flash .now) (st .args .out .now); untouched = λ e. refl })
+    (record {
+      called = ignored-effect (k .v .given .0 .0) (st .args .s) (st .args .flash .now) (st .args .out .now);
+      untouched = λ e. refl;
+    })
 
 same-length : tie.Need-same-length
 same-length c = search needs

@@ -17,7 +17,8 @@ use prog.Wp.{Heap, Calls, Loops, WpFn, Tables}
 use ghost.Atoms.{Atoms, sem}
 use contract.Monad.{Fun, fact}
 use contract.Running.{givenOf, tables, tablesOf}
-use types.Kit.{Given, Item, ‵, raw, some, later, _⊛_, ⋆, mean, _$_, _∵_, !, qed, by, move, keep, drop as discard, pick, use1, use2, await, split}
+use types.Kit.{Given, Item, ‵, raw, some, later, _⊛_, ⋆, mean, _$_, _∵_, !, qed, by, move, keep, drop as discard}
+use types.Kit.{pick, use1, use2, await, split}
 use types.Kit.{join, fsplit, fsplit3, fjoin, fjoin3, feqL, feqI, suffices, frame, show, done}
 use types.Run.{look, look-raw, init, store-raw, forget, stop, hop, fld, from, load, addr, of-opd, assigns, and-then, no-more, land}
 use types.Run.{returns, enter, alloc1, alloc0, params1, pass1, pass0, free1, free0}

@@ -1,5 +1,5 @@
--- `tally_claims::wrong_tallies` meets its contract: a short frame at 65,535; an I²C read of a stored reply; a foreign frame while running; a
--- reset after a counted frame.
+-- `tally_claims::wrong_tallies` meets its contract: a short frame at 65,535; an I²C read of a stored reply; a foreign frame while running;
+-- a reset with counters at their limit.
 use mathlib.Core.Path.{_≡_, refl, ap}
 use mathlib.Core.Bool.{true}
 use mathlib.Core.List.{List, [], _∷_}

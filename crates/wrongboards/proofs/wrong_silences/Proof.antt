@@ -1,5 +1,5 @@
--- `wrongboards::wrong_silences` meets its contract: a foreign request gets 1, two zeros get 17, a version request to all boards gets 18, and
--- so does one to this board after start.
+-- `wrongboards::wrong_silences` meets its contract: a foreign request gets 1, two zeros get 17, a version request to all boards gets 18,
+-- and so does one to this board after start.
 use mathlib.Core.Path.{_≡_, refl}
 use mathlib.Core.List.{List, [], _∷_}
 use Prim.Native.Nat.{ℕ, _≤_}
