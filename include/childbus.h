@@ -83,7 +83,8 @@ extern "C" {
 #define CHILDBUS_DEFAULT_FIRST 8u
 #define CHILDBUS_DEFAULT_LAST 15u
 
-#define CHILDBUS_PAGE          64u     /* bytes of a flash page */
+#define CHILDBUS_PAGE          64u     /* bytes of a flash page, if byte 6 of the profile is 0 */
+#define CHILDBUS_PAGE_MAX      128u    /* bytes of the largest flash page */
 #define CHILDBUS_FRAME_MIN     32u     /* smallest M */
 #define CHILDBUS_FRAME_MAX     256u    /* largest M */
 #define CHILDBUS_FLASH_MAX     65472u  /* largest S, and largest O */
@@ -98,14 +99,19 @@ extern "C" {
  *    3      actual revision
  *    4      bootloader version
  *    5      length of the serial, 0 to 16
- *    6..7   set to 0; not looked at today
+ *    6      page: 0 for pages of 64 bytes, 1 for pages of 128
+ *    7      set to 0; not looked at today
  *    8..11  M, longest frame, 32 to 256: on RS485 from address to CRC, on I2C without the address
- *   12..15  S, working flash, 64 to 65472, a multiple of 64
- *   16..19  O, its offset in the lent flash, 0 to 65472, a multiple of 64
+ *   12..15  S, working flash, a multiple of the page: 64 to 65472, with pages of 128 bytes 128 to 65408
+ *   16..19  O, its offset in the lent flash, a multiple of the page: 0 to 65472, with pages of 128 bytes to 65408
  *   20..35  serial; bytes beyond its length: set to 0; not looked at today
  *
  * A buffer shorter than CHILDBUS_PROFILE_BYTES, or a field out of its range, is number 2. Bytes past 36 are not looked
  * at. Fill the profile with 0 before its fields are set: a later version may give these bytes a meaning.
+ *
+ * What an old caller must change: libraries before 0.6.0 did not look at byte 6 and had pages of 64 bytes. A caller that
+ * set it to 0, as their header asked, keeps working; any other value there was ignored and is 128-byte pages or number 2
+ * now. The state has grown, see below.
  */
 #define CHILDBUS_PROFILE_BYTES 36u
 #define CHILDBUS_PROFILE_BUS            0
@@ -114,10 +120,15 @@ extern "C" {
 #define CHILDBUS_PROFILE_ACTUAL         3
 #define CHILDBUS_PROFILE_BOOTLOADER     4
 #define CHILDBUS_PROFILE_SERIAL_LENGTH  5
+#define CHILDBUS_PROFILE_PAGE           6
 #define CHILDBUS_PROFILE_LONGEST        8
 #define CHILDBUS_PROFILE_SIZE          12
 #define CHILDBUS_PROFILE_OFFSET        16
 #define CHILDBUS_PROFILE_SERIAL        20
+
+/* Values of the profile's page byte. */
+#define CHILDBUS_PAGE_64  0u
+#define CHILDBUS_PAGE_128 1u
 
 /*
  * The state: what the board remembers between calls. childbus_fresh makes it, childbus_receive changes it; the caller
@@ -132,15 +143,22 @@ extern "C" {
  *    8..11   w: how many bytes wait to be committed
  *   12..15   erase count
  *   16..19   length of the last reply (I2C; 0 means none)
- *   20..83   waiting bytes, the first w of them
- *   84..339  last reply, as many bytes as its length says
+ *   20..147  waiting bytes, the first w of them
+ *  148..403  last reply, as many bytes as its length says
  *
  * Number 4 is given for a buffer shorter than CHILDBUS_STATE_BYTES, an address kind or a running byte above 1,
- * next over S, w over next mod 64, count over next - w, a last reply over M bytes, and any on RS485. Bytes past 340
+ * next over S, w over next mod page, count over next - w, a last reply over M bytes, and any on RS485. Bytes past 404
  * are never touched. A call answered 2 or above leaves every byte as it was. After 0 and 1 the bytes that mean nothing
  * (3, the own address with kind 0, waiting bytes beyond w, reply bytes beyond its length) may hold anything.
+ *
+ * The state does not hold its page. One made under another page is judged by the rule above alone: number 4, or taken,
+ * and then its waiting bytes still go to their own places, next - w .. next - 1.
+ *
+ * What an old caller must change: the state had 340 bytes before 0.6.0. A buffer of CHILDBUS_STATE_BYTES grows when its
+ * program is compiled with this header; one of 340 bytes is answered 4. State bytes kept from an older library mean
+ * something else here: begin with childbus_fresh.
  */
-#define CHILDBUS_STATE_BYTES 340u
+#define CHILDBUS_STATE_BYTES 404u
 #define CHILDBUS_STATE_ADDRESS_KIND   0
 #define CHILDBUS_STATE_OWN_ADDRESS    1
 #define CHILDBUS_STATE_RUNNING        2
@@ -149,14 +167,14 @@ extern "C" {
 #define CHILDBUS_STATE_ERASE_COUNT   12
 #define CHILDBUS_STATE_REPLY_LENGTH  16
 #define CHILDBUS_STATE_WAITING       20
-#define CHILDBUS_STATE_REPLY         84
+#define CHILDBUS_STATE_REPLY        148
 
 /*
  * The fresh board: default range, not running, all the rest zero. Call it once at power-up.
  *
- *   state, state_len  its first 340 bytes become the fresh state
+ *   state, state_len  its first 404 bytes become the fresh state
  *
- * Answers 0; 4 if the buffer is shorter than 340.
+ * Answers 0; 4 if the buffer is shorter than 404.
  */
 uint32_t childbus_fresh(uint8_t *state, size_t state_len);
 
