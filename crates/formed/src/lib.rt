@@ -1,6 +1,5 @@
 // Whether a state is one of this board: the test behind number 4.
 use profile::Profile;
-use profile::page;
 use rules::kinds::Bus;
 use state::State;
 use state::Upload;
@@ -34,7 +33,7 @@ pub fn well_formed(p: Profile, s: State) -> bool
     ensures { λ r. ⌜ r ≡ wellFormed (profileOf p) (view s) ⌝ }
 {
     let upload = s.upload;
-    let page = page(p);
+    let page = p.page;
     if !upload_formed(page, p.size, upload) {
         return false;
     }

@@ -6,7 +6,7 @@ use mathlib.Core.Bool.{Bool, true, false, cond, not, _&&_}
 use Prim.Native.Nat.{ℕ, _+_, _-_, _%_, _≤_, _<_}
 use native.Mathlib.Omega.{arith}
 use native.Mathlib.Numerals.{add-one}
-use lib.Dec.{leb}
+use lib.Dec.{leb, eqb}
 use lib.ListN.{length, take, set, replicate, length-append, length-take, length-set, length-replicate}
 use lib.Seq.{take-append-le, take-at, take-suc-set}
 use borrow.Author.Tests.{leb-true, eqb-true, ltb-false, le-leb, eq-eqb, le-ltb, not-false}
@@ -16,7 +16,7 @@ use Rattle.rules.specs.Profile.{Profile, frameInRange, largestPage, pageInRange
 use Rattle.rules.specs.Profile.{inRange}
 use Rattle.rules.specs.State.{State, Upload, fresh, used, uploadFormed, replyFormed, wellFormed}
 use Rattle.rules.specs.Numbers.{refusal, flashShort, bufferShort, Unrefused}
-use Rattle.laws.proofs.TestLaws.{&&-true}
+use Rattle.laws.proofs.TestLaws.{by-test, &&-true}
 use Rattle.laws.proofs.BytesLaws.{length-zero}
 
 -- used
@@ -37,11 +37,15 @@ used-zero buffer = refl
 -- the range rule
 
 pub pageInRange-bounds : (page : ℕ) → pageInRange page ≡ true → (0 < page) × (page ≤ largestPage)
-pageInRange-bounds page e = let is = eqb-true page _ e in (omega arith, omega arith)
+pageInRange-bounds page e =
+    by-test (eqb page 64)
+    (λ small. let is = eqb-true page 64 small in (omega arith, omega arith))
+    (λ other. let is = eqb-true page largestPage (rw other at e) in (omega arith, omega arith))
 
 pub record ProfileFacts (p : Profile) : Type 0 where
   pub longest-least : 32 ≤ p .longest
   pub longest-most : p .longest ≤ 256
+  pub page-in-range : pageInRange (p .page) ≡ true
   pub page-least : 0 < p .page
   pub page-most : p .page ≤ largestPage
   pub size-paged : p .size % p .page ≡ 0
@@ -69,6 +73,7 @@ inRange-facts p e =
     record {
       longest-least = leb-true _ _ (frames .0);
       longest-most = leb-true _ _ (frames .1);
+      page-in-range = page .0;
       page-least = pageInRange-bounds (p .page) (page .0) .0;
       page-most = pageInRange-bounds (p .page) (page .0) .1;
       size-paged = eqb-true _ _ (sizes .0);

@@ -1,14 +1,13 @@
--- What a profile of the code says. The page that the rules get is the state's own constant.
+-- What a profile of the code says.
 use Rattle.rules.specs.Profile as rules
 use Rattle.rules.specs.State.{used}
-use Rattle.state.specs.View.{page}
 use Rattle.profile.specs.declared.Profile.{Profile}
 
 abbrev pub profileOf : Profile → rules.Profile
 profileOf p = record {
   bus = p .bus;
   longest = p .longest;
-  page = page;
+  page = p .page;
   size = p .size;
   offset = p .offset;
   hardware = p .hardware;

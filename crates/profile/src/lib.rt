@@ -10,6 +10,8 @@ pub struct Profile {
     pub bus: Bus,
     // M, longest frame
     pub longest: usize,
+    // page size
+    pub page: usize,
     // S, working flash
     pub size: usize,
     // O, the working flash's offset in the lent flash
@@ -42,18 +44,14 @@ pub fn frame_in_range(longest: usize) -> bool
     longest <= State::LARGEST_FRAME
 }
 
-// The page of a board: the same for every profile.
-pub fn page(p: Profile) -> usize
-    ensures { λ r. ⌜ r ≡ profileOf p .page ⌝ }
-{
-    State::PAGE
-}
-
-// page: 64 bytes.
+// page: 64 or 128 bytes.
 fn page_in_range(page: usize) -> bool
     ensures { λ r. ⌜ r ≡ pageInRange page ⌝ }
 {
-    page == State::PAGE
+    if page == State::SMALLEST_PAGE {
+        return true;
+    }
+    page == State::LARGEST_PAGE
 }
 
 // S: a multiple of the page, from one page to the largest S.
@@ -88,7 +86,7 @@ pub fn in_range(p: Profile) -> bool
     if !frame_in_range(p.longest) {
         return false;
     }
-    let page = page(p);
+    let page = p.page;
     if !page_in_range(page) {
         return false;
     }

@@ -6,6 +6,7 @@ use lib.Dec.{eqb, leb}
 use lib.ListN.{length, getD, replicate}
 use Rattle.rules.specs.declared.kinds.Bus.{Bus}
 use Rattle.rules.specs.declared.kinds.Bus.the-variants.{I2c, Rs485}
+use Rattle.rules.specs.Profile.{largestPage}
 use Rattle.profile.specs.declared.Profile.{Profile}
 use Rattle.byte_slices.specs.Four.{fourAt, fourBytes}
 use Rattle.fields.specs.Fields.{part}
@@ -14,9 +15,9 @@ use Rattle.fields.specs.Fields.{part}
 abbrev pub profileSize : ℕ
 profileSize = 36
 
--- byte 0 is a bus, 0 or 1; bytes past the 36 mean nothing
+-- byte 0 is a bus, 0 or 1, and byte 6 a page, 0 or 1; bytes past the 36 mean nothing
 abbrev pub profileHeld : List ℕ → Bool
-profileHeld b = leb profileSize (length b) && leb (getD b 0 0) 1
+profileHeld b = leb profileSize (length b) && (leb (getD b 0 0) 1 && leb (getD b 6 0) 1)
 
 -- 0 I²C, 1 RS485
 abbrev pub busOf : ℕ → Bus
@@ -26,11 +27,19 @@ abbrev pub busByte : Bus → ℕ
 busByte I2c = 0
 busByte Rs485 = 1
 
--- bytes 6 and 7 mean nothing
+-- byte 6: 0 is a page of 64 bytes, 1 of 128
+abbrev pub pageOf : ℕ → ℕ
+pageOf x = cond (eqb x 0) 64 largestPage
+
+abbrev pub pageByte : ℕ → ℕ
+pageByte page = cond (eqb page 64) 0 1
+
+-- byte 7 means nothing
 abbrev pub profileSaid : List ℕ → Profile
 profileSaid b = record {
   bus = busOf (getD b 0 0);
   longest = fourAt b 8;
+  page = pageOf (getD b 6 0);
   size = fourAt b 12;
   offset = fourAt b 16;
   hardware = getD b 1 0;
@@ -46,6 +55,7 @@ abbrev pub noProfile : Profile
 noProfile = record {
   bus = I2c;
   longest = 0;
+  page = 0;
   size = 0;
   offset = 0;
   hardware = 0;
@@ -63,7 +73,7 @@ profileAt b = cond (profileHeld b) (profileSaid b) noProfile
 -- the bytes that a caller fills in
 unfoldable pub profileBytes : Profile → List ℕ
 profileBytes p =
-    (busByte (p .bus) ∷ p .hardware ∷ p .compatible ∷ p .actual ∷ p .version ∷ p .seriallen ∷ 0 ∷ 0 ∷ [])
+    (busByte (p .bus) ∷ p .hardware ∷ p .compatible ∷ p .actual ∷ p .version ∷ p .seriallen ∷ pageByte (p .page) ∷ 0 ∷ [])
     ++ fourBytes (p .longest)
     ++ fourBytes (p .size)
     ++ fourBytes (p .offset)

@@ -4,12 +4,13 @@ use byte_slices::four_at;
 use byte_slices::wide;
 use profile::Profile;
 use rules::kinds::Bus;
+use state::State;
 ghost use mathlib.Core.Path.{_≡_};
 ghost use Prim.Native.Nat.{_≤_};
 ghost use lib.ListN.{length};
 ghost use Rattle.fields.specs.Fields.{part};
 ghost use Rattle.profile_bytes.specs.BothWays.{BothWays};
-ghost use Rattle.profile_bytes.specs.ProfileBytes.{profileSize, profileSaid, noProfile, profileAt, busOf};
+ghost use Rattle.profile_bytes.specs.ProfileBytes.{profileSize, profileSaid, noProfile, profileAt, busOf, pageOf};
 
 // How many bytes a profile takes.
 pub const PROFILE_BYTES: usize = 36;
@@ -19,6 +20,17 @@ pub fn bus_of(x: usize) -> Bus
     ensures { λ r. ⌜ r ≡ busOf x ⌝ }
 {
     if x == 0 { Bus::I2c } else { Bus::Rs485 }
+}
+
+// The page of byte 6: 0 is 64 bytes, 1 is 128.
+fn page_of(x: u8) -> usize
+    ensures { λ r. ⌜ r ≡ pageOf x ⌝ }
+{
+    if x == 0 {
+        State::SMALLEST_PAGE
+    } else {
+        State::LARGEST_PAGE
+    }
 }
 
 fn serial_at(b: &[u8]) -> [u8; Profile::LONGEST_SERIAL]
@@ -39,6 +51,7 @@ fn profile_said(b: &[u8]) -> Profile
     Profile {
         bus: bus_of(wide(b[0])),
         longest: four_at(b, 8),
+        page: page_of(b[6]),
         size: four_at(b, 12),
         offset: four_at(b, 16),
         hardware: b[1],
@@ -57,6 +70,7 @@ fn no_profile() -> Profile
     Profile {
         bus: Bus::I2c,
         longest: 0,
+        page: 0,
         size: 0,
         offset: 0,
         hardware: 0,
@@ -77,6 +91,10 @@ pub fn profile_from(b: &[u8]) -> Profile
     }
     let bus = b[0];
     if 1 < bus {
+        return no_profile();
+    }
+    let page = b[6];
+    if 1 < page {
         return no_profile();
     }
     profile_said(b)

@@ -1,7 +1,7 @@
 -- Document 01, "Proved examples", in one table with one statement. E1 to E12, the last three on both buses and at two offsets; the edges
 -- that it names as rows 13 to 19; a shorter upload over a longer one as row 20; the edges of the sizes (numbers 2 and 4) as rows 21 to 29;
 -- the edges of the reserved addresses (W1) as rows 30 to 34; version 0.0 and its reset (W4) as rows 35 to 37; why a frame got no reply
--- (W3) as rows 38 to 41.
+-- (W3) as rows 38 to 41; pages of 128 bytes (W8) as rows 42 to 48.
 use mathlib.Core.Bool.{Bool, true, false, cond}
 use mathlib.Core.List.{List, [], _∷_, _++_, map}
 use Prim.Native.Nat.{ℕ, _+_}
@@ -33,12 +33,12 @@ unfoldable pub disagreeing : List Row → List ℕ
 disagreeing [] = []
 disagreeing (r ∷ rs) = cond (same (r .given) (r .stated)) (disagreeing rs) (r .label ∷ disagreeing rs)
 
--- a board on a bus, with M, S, O, a hardware type and a serial
-abbrev pub built : Bus → ℕ → ℕ → ℕ → ℕ → List ℕ → Profile
-built bus M S O hardware serial = record {
+-- a board with a page, on a bus, with M, S, O, a hardware type and a serial
+abbrev pub builtOf : ℕ → Bus → ℕ → ℕ → ℕ → ℕ → List ℕ → Profile
+builtOf page bus M S O hardware serial = record {
   bus = bus;
   longest = M;
-  page = 64;
+  page = page;
   size = S;
   offset = O;
   hardware = hardware;
@@ -47,6 +47,10 @@ built bus M S O hardware serial = record {
   version = 1;
   serial = serial;
 }
+
+-- with a page of 64 bytes
+abbrev pub built : Bus → ℕ → ℕ → ℕ → ℕ → List ℕ → Profile
+built = builtOf 64
 
 -- for E10 to E12: S = 128, M = 256, on a bus, with O
 abbrev pub exampleAt : Bus → ℕ → Profile
@@ -135,6 +139,14 @@ numbered e = e .number ∷ e .bytes
 -- the number of a frame's answer on RS485, with M = 32, from a board that is running or not
 abbrev pub exampleSilence : Bool → List ℕ → ℕ
 exampleSilence running f = received (built Rs485 32 128 0 1 []) (withRunning fresh running) 0 f (replicate 128 0xFF) 32 .number
+
+-- a board with a page, S of two pages: 0, or the number that refuses it
+abbrev pub examplePage : ℕ → ℕ
+examplePage page = refusedAs (builtOf page I2c 256 (page + page) 0 1 [])
+
+-- as the board for the edges, with a page of 128 bytes
+abbrev pub gaugeBoard : Profile
+gaugeBoard = builtOf 128 I2c 256 128 0 1 []
 
 -- the erase count that a call left
 abbrev pub countAfter : Called → ℕ
@@ -269,4 +281,24 @@ rows =
     ∷ row 41 (map (exampleSilence true) ([] ∷ replicate 33 7 ∷ (8 ∷ 0x00 ∷ 0x06 ∷ 0x71 ∷ []) ∷ request Rs485 7 0x00 []
     ∷ resetFrame Rs485 ∷ []))
     (1 ∷ 1 ∷ 1 ∷ 1 ∷ 1 ∷ [])
+    -- W8, number 2: pages, with S of two pages
+    ∷ row 42 (map examplePage (32 ∷ 63 ∷ 64 ∷ 65 ∷ 96 ∷ 127 ∷ 128 ∷ 129 ∷ 192 ∷ 256 ∷ [])) (2 ∷ 2 ∷ 0 ∷ 2 ∷ 2 ∷ 2 ∷ 0 ∷ 2 ∷ 2 ∷ 2 ∷ [])
+    -- S and O under a page of 128: multiples of 64, and of 128
+    ∷ row 43 (map (λ (S : ℕ). refusedAs (builtOf 128 I2c 256 S 0 1 [])) (64 ∷ 128 ∷ 192 ∷ 65408 ∷ 65472 ∷ 65536 ∷ []))
+    (2 ∷ 0 ∷ 2 ∷ 0 ∷ 2 ∷ 2 ∷ [])
+    ∷ row 44 (map (λ (O : ℕ). refusedAs (builtOf 128 Rs485 256 128 O 1 [])) (0 ∷ 64 ∷ 128 ∷ 65408 ∷ 65472 ∷ []))
+    (0 ∷ 2 ∷ 0 ∷ 0 ∷ 2 ∷ [])
+    -- number 4: w of 127 before the page's end, of 1 at it; states of one page handed to a board with the other
+    ∷ row 45 (givenTo gaugeBoard (stateAt 127 127 0 0) ∷ givenTo gaugeBoard (stateAt 128 1 0 0) ∷ givenTo gaugeBoard (stateAt 70 70 0 0)
+    ∷ givenTo exampleBoard (stateAt 70 70 0 0) ∷ givenTo exampleBoard (stateAt 70 6 1 0) ∷ givenTo gaugeBoard (stateAt 70 6 1 0) ∷ [])
+    (0 ∷ 4 ∷ 0 ∷ 4 ∷ 0 ∷ 0 ∷ [])
+    -- E10's write: count 0, w = 70; finalize: count 1; the same upload again: count 0
+    ∷ row 46 (countAfter (seventy gaugeBoard) ∷ length (seventy gaugeBoard .state .upload .waiting) ∷ countAfter (uploaded gaugeBoard)
+    ∷ countAfter (repeated gaugeBoard) ∷ []) (0 ∷ 70 ∷ 1 ∷ 0 ∷ [])
+    ∷ row 46 (uploaded gaugeBoard .flash) (replicate 70 0x11 ++ replicate 58 0xFF)
+    -- 127 bytes wait, the 128th commits all
+    ∷ row 47 (map (λ (n : ℕ). length (filled gaugeBoard (blank gaugeBoard) n 0x11 .state .upload .waiting)) (127 ∷ 128 ∷ [])
+    ++ countAfter (filled gaugeBoard (blank gaugeBoard) 128 0x11) ∷ []) (127 ∷ 0 ∷ 1 ∷ [])
+    -- E10's write under 64 bytes, finalized under 128: its last 6 bytes at their places
+    ∷ row 48 (closed gaugeBoard (seventy exampleBoard) .flash) (replicate 70 0x11 ++ replicate 58 0xFF)
     ∷ []

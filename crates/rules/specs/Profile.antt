@@ -1,5 +1,5 @@
 -- Document 01, "Profile and sizes": what a board is built as, and the range rule (number 2).
-use mathlib.Core.Bool.{Bool, _&&_}
+use mathlib.Core.Bool.{Bool, _&&_, _||_}
 use mathlib.Core.List.{List}
 use Prim.Native.Nat.{ℕ, _%_}
 use lib.Dec.{eqb, leb}
@@ -10,6 +10,7 @@ pub record Profile : Type 0 where
   pub bus : Bus
   -- M, longest frame
   pub longest : ℕ
+  -- page size
   pub page : ℕ
   -- S, working flash
   pub size : ℕ
@@ -35,11 +36,11 @@ paged page n = eqb (n % page) 0
 
 -- the largest page that a profile in range has: as many bytes can wait
 abbrev pub largestPage : ℕ
-largestPage = 64
+largestPage = 128
 
--- page: 64 bytes
+-- page: 64 or 128 bytes (W8)
 abbrev pub pageInRange : ℕ → Bool
-pageInRange page = eqb page 64
+pageInRange page = eqb page 64 || eqb page largestPage
 
 -- S: a multiple of the page, from one page to 65,472
 abbrev pub sizeInRange : ℕ → ℕ → Bool

@@ -15,10 +15,6 @@ use Rattle.state.specs.declared.State.{State}
 
 -- the sizes that the state's own type has; `State::LARGEST_PAGE` is the rules' largestPage
 
--- page, `State::PAGE`, the one that every profile has; unfolded only where the code names it
-unfoldable pub page : ℕ
-page = 64
-
 -- the largest M, `State::LARGEST_FRAME`
 abbrev pub largestFrame : ℕ
 largestFrame = 256

@@ -62,10 +62,10 @@ impl Last {
 }
 
 impl State {
-    // page: 64 bytes
-    pub const PAGE: usize = 64;
+    // the smallest page
+    pub const SMALLEST_PAGE: usize = 64;
     // the largest page: as many bytes can wait
-    pub const LARGEST_PAGE: usize = 64;
+    pub const LARGEST_PAGE: usize = 128;
     // the largest S
     pub const LARGEST_FLASH: usize = 65472;
     // the largest M

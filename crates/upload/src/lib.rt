@@ -3,7 +3,6 @@
 use commit::commit_counted;
 use commit::part;
 use profile::Profile;
-use profile::page;
 use state::Upload;
 ghost use mathlib.Core.Path.{_≡_};
 ghost use Prim.Native.Nat.{_+_, _≤_, _<_};
@@ -19,7 +18,7 @@ pub fn take(p: Profile, u: Upload, bytes: &[u8], flash: &mut [u8]) -> Upload
     ensures { λ r. ⌜ progressOf r (now (flash .exit)) ≡ takenAll (profileOf p) (progressOf u (now (flash .entry))) (now (bytes .entry)) ⌝ }
     ensures { λ r. ⌜ Formed p r (u .next + length (now (bytes .entry))) ⌝ }
 {
-    let page = page(p);
+    let page = p.page;
     let mut next = u.next;
     let mut held = u.held;
     let mut count = u.count;

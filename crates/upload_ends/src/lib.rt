@@ -2,11 +2,9 @@
 use byte_parts::first;
 use byte_parts::from;
 use byte_slices::matches;
-use state::State;
 ghost use mathlib.Core.Path.{_≡_};
-ghost use Prim.Native.Nat.{_*_, _<_};
+ghost use Prim.Native.Nat.{_*_};
 ghost use Rattle.byte_parts.specs.Parts.{part};
-ghost use Rattle.state.specs.View.{page};
 ghost use Rattle.upload_ends.specs.Ends.{beginsWith, uploadEnd, pageChanged};
 
 // How an upload ended.
@@ -53,11 +51,13 @@ pub fn upload_end(
     UploadEnd::Partly
 }
 
-// Page k of the bytes; none where that lies past the end.
+// Page k of the bytes; none where that lies past the end, or where a page has no bytes.
 fn page_of<'a>(page: usize, bytes: &'a [u8], k: usize) -> &'a [u8]
-    requires { ⌜ 0 < page ⌝ }
     ensures { λ r. ⌜ now r ≡ part (k * page) page (now (bytes .entry)) ⌝ }
 {
+    if page == 0 {
+        return &bytes[0..0];
+    }
     if bytes.len() / page < k {
         return &bytes[0..0];
     }
@@ -65,11 +65,11 @@ fn page_of<'a>(page: usize, bytes: &'a [u8], k: usize) -> &'a [u8]
 }
 
 // Whether page k of the working flash has changed.
-pub fn page_changed(offset: usize, k: usize, earlier: &[u8], flash: &[u8]) -> bool
+pub fn page_changed(page: usize, offset: usize, k: usize, earlier: &[u8], flash: &[u8]) -> bool
     ensures { λ r. ⌜ r ≡ pageChanged page offset k (now (earlier .entry)) (now (flash .entry)) ⌝ }
 {
     !matches(
-        page_of(State::PAGE, from(earlier, offset), k),
-        page_of(State::PAGE, from(flash, offset), k),
+        page_of(page, from(earlier, offset), k),
+        page_of(page, from(flash, offset), k),
     )
 }

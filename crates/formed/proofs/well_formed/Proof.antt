@@ -14,27 +14,22 @@ use Rattle.formed.proofs.Laws.{replyFormed-long}
 use Rattle.formed.proofs.well_formed.Statement.{statement}
 use Rattle.formed.proofs.well_formed.Tie as tie
 
-page-requires : tie.Need-page-requires
-page-requires c κs = search needs
-
 upload-formed-requires : tie.Need-upload-formed-requires
 upload-formed-requires c κs =
-    let start = c .before .before in
-    rw (c .page .ensures) (inRange-facts (profileOf (start .args .p)) (start .pre) .page-least)
+    let start = c .before in
+    inRange-facts (profileOf (start .args .p)) (start .pre) .page-least
 
 returns : tie.Need-returns
 unfolding wellFormed
-returns c = rw (← c .before .before .page .ensures, answered-false (c .before .upload-formed .ensures) (c .if1 .taken))
+returns c = rw (answered-false (c .before .upload-formed .ensures) (c .if1 .taken))
 
 returns-2 : tie.Need-returns-2
 unfolding wellFormed
 returns-2 c =
     let uploaded = c .before .before in
-    let paged = uploaded .before .before in
-    let args = paged .before .before .args in
+    let args = uploaded .before .before .before .args in
     let long : args .p .longest < length (lastOf (args .s .last)) = rw (length-last (args .s .last)) (c .if2 .taken) in
     rw (
-      ← paged .page .ensures,
       answered-true (uploaded .before .upload-formed .ensures) (uploaded .if1 .left),
       replyFormed-long (args .p .bus) (args .p .longest) (lastOf (args .s .last)) long,
     )
@@ -50,10 +45,8 @@ unfolding wellFormed
 returns-3 c =
     let short = c .before .before in
     let uploaded = short .before .before in
-    let paged = uploaded .before .before in
-    let args = paged .before .before .args in
+    let args = uploaded .before .before .before .args in
     rw (
-      ← paged .page .ensures,
       answered-true (uploaded .before .upload-formed .ensures) (uploaded .if1 .left),
       c .enum-told .given .1,
       length-last (args .s .last),
@@ -65,10 +58,8 @@ unfolding wellFormed
 returns-4 c =
     let short = c .before .before in
     let uploaded = short .before .before in
-    let paged = uploaded .before .before in
-    let args = paged .before .before .args in
+    let args = uploaded .before .before .before .args in
     rw (
-      ← paged .page .ensures,
       answered-true (uploaded .before .upload-formed .ensures) (uploaded .if1 .left),
       c .enum-told2 .given .1,
       length-last (args .s .last),
@@ -78,4 +69,4 @@ returns-4 c =
 pub well-formed-spec : {M : Type 1} → statement M
 well-formed-spec =
     tie.close
-    (tie.spec page-requires upload-formed-requires returns returns-2 enum-told enum-told-2 returns-3 returns-4)
+    (tie.spec upload-formed-requires returns returns-2 enum-told enum-told-2 returns-3 returns-4)

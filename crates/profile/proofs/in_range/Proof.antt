@@ -18,9 +18,6 @@ returns : tie.Need-returns
 unfolding inRange
 returns c = rw (answered-false (c .before .frame-in-range .ensures) (c .if1 .taken))
 
-page-requires : tie.Need-page-requires
-page-requires c κs = search needs
-
 page-in-range-requires : tie.Need-page-in-range-requires
 page-in-range-requires c κs = search needs
 
@@ -28,10 +25,9 @@ returns-2 : tie.Need-returns-2
 unfolding inRange
 returns-2 c =
     let tested = c .before in
-    let framed = tested .before .before in
+    let framed = tested .before in
     rw (
       answered-true (framed .before .frame-in-range .ensures) (framed .if1 .left),
-      ← tested .before .page .ensures,
       answered-false (tested .page-in-range .ensures) (c .if2 .taken),
     )
 
@@ -43,10 +39,9 @@ returns-3 : tie.Need-returns-3
 unfolding inRange
 returns-3 c =
     let paged = c .before .before in
-    let framed = paged .before .before .before in
+    let framed = paged .before .before in
     rw (
       answered-true (framed .before .frame-in-range .ensures) (framed .if1 .left),
-      ← paged .before .before .page .ensures,
       answered-true (paged .before .page-in-range .ensures) (paged .if2 .left),
       answered-false (c .before .size-in-range .ensures) (c .if3 .taken),
     )
@@ -61,10 +56,9 @@ unfolding inRange
 returns-4 c =
     let sized = c .before .before in
     let paged = sized .before .before in
-    let framed = paged .before .before .before in
+    let framed = paged .before .before in
     rw (
       answered-true (framed .before .frame-in-range .ensures) (framed .if1 .left),
-      ← paged .before .before .page .ensures,
       answered-true (paged .before .page-in-range .ensures) (paged .if2 .left),
       answered-true (sized .before .size-in-range .ensures) (sized .if3 .left),
       answered-false (c .before .offset-in-range .ensures) (c .if4 .taken),
@@ -76,10 +70,9 @@ returns-5 c =
     let placed = c .before .before in
     let sized = placed .before .before in
     let paged = sized .before .before in
-    let framed = paged .before .before .before in
+    let framed = paged .before .before in
     rw (
       answered-true (framed .before .frame-in-range .ensures) (framed .if1 .left),
-      ← paged .before .before .page .ensures,
       answered-true (paged .before .page-in-range .ensures) (paged .if2 .left),
       answered-true (sized .before .size-in-range .ensures) (sized .if3 .left),
       answered-true (placed .before .offset-in-range .ensures) (placed .if4 .left),
@@ -93,11 +86,10 @@ returns-6 c =
     let placed = typed .before .before in
     let sized = placed .before .before in
     let paged = sized .before .before in
-    let framed = paged .before .before .before in
+    let framed = paged .before .before in
     let start = framed .before .before in
     rw (
       answered-true (framed .before .frame-in-range .ensures) (framed .if1 .left),
-      ← paged .before .before .page .ensures,
       answered-true (paged .before .page-in-range .ensures) (paged .if2 .left),
       answered-true (sized .before .size-in-range .ensures) (sized .if3 .left),
       answered-true (placed .before .offset-in-range .ensures) (placed .if4 .left),
@@ -112,7 +104,6 @@ in-range-spec =
     (tie.spec
     frame-in-range-requires
     returns
-    page-requires
     page-in-range-requires
     returns-2
     size-in-range-requires

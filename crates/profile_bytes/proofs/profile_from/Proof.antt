@@ -22,12 +22,28 @@ returns-2 : tie.Need-returns-2
 unfolding profileAt
 returns-2 c = rw (le-leb _ _ (c .before .before .before .if1 .left), lt-leb _ _ (c .before .if2 .taken)) (c .no-profile2 .ensures)
 
-profile-said-requires : tie.Need-profile-said-requires
-profile-said-requires c κs = search needs
+shared-slice-read-page : tie.Need-shared-slice-read-page
+shared-slice-read-page c = search needs
+
+no-profile-requires-3 : tie.Need-no-profile-requires-3
+no-profile-requires-3 c κs = search needs
 
 returns-3 : tie.Need-returns-3
 unfolding profileAt
-returns-3 c = rw (le-leb _ _ (c .before .before .before .if1 .left), le-leb _ _ (c .before .if2 .left)) (c .profile-said .ensures)
+returns-3 c =
+    let bus = c .before .before .before in
+    rw (le-leb _ _ (bus .before .before .if1 .left), le-leb _ _ (bus .if2 .left), lt-leb _ _ (c .before .if3 .taken))
+    (c .no-profile3 .ensures)
+
+profile-said-requires : tie.Need-profile-said-requires
+profile-said-requires c κs = search needs
+
+returns-4 : tie.Need-returns-4
+unfolding profileAt
+returns-4 c =
+    let bus = c .before .before .before in
+    rw (le-leb _ _ (bus .before .before .if1 .left), le-leb _ _ (bus .if2 .left), le-leb _ _ (c .before .if3 .left))
+    (c .profile-said .ensures)
 
 pub profile-from-spec : {M : Type 1} → statement M
 profile-from-spec =
@@ -38,5 +54,8 @@ profile-from-spec =
     shared-slice-read-bus
     no-profile-requires-2
     returns-2
+    shared-slice-read-page
+    no-profile-requires-3
+    returns-3
     profile-said-requires
-    returns-3)
+    returns-4)

@@ -1,6 +1,6 @@
 -- `upload::take` meets its contract. Invariant: `Reached`, where the first i bytes lead. A turn takes a part that lies in one page, by
 -- `turn-appended` or `turn-committed`.
-use mathlib.Core.Path.{_≡_}
+use mathlib.Core.Path.{_≡_, refl}
 use Prim.Native.Nat.{_-_}
 use native.Mathlib.Omega.{arith}
 use lib.ListN.{length, length-take, length-drop}
@@ -20,18 +20,13 @@ Inv-loop p bytes flash₀ page next₀ held₀ count₀ waiting₀ i₀ flash ne
 abbrev μ-loop : tie.MeasureT-loop
 μ-loop p bytes flash₀ page next₀ held₀ count₀ waiting₀ i₀ flash next held count waiting i = length bytes - i
 
-page-requires : tie.Need-page-requires Inv-loop μ-loop
-page-requires c κs = search needs
-
 buffer-long : (c : tie.Start Inv-loop μ-loop) → length (c .args .u .waiting) ≡ largestPage
 buffer-long c = search needs
 
 loop-holds : tie.Need-loop-holds Inv-loop μ-loop
 loop-holds c =
-    let paged = c .before in
-    let start = paged .before .before .before in
-    reached-none (start .args .flash .now) (start .pre .0) (start .args .bytes .now) (start .pre .1) (paged .page .ensures)
-    (buffer-long start)
+    let start = c .before .before .before in
+    reached-none (start .args .flash .now) (start .pre .0) (start .args .bytes .now) (start .pre .1) refl (buffer-long start)
 
 sub-part : tie.Need-sub-part Inv-loop μ-loop
 sub-part c = search needs
@@ -89,7 +84,7 @@ loop-again c =
     let test = c .before .before .before .before .before .before in
     let stored = test .before .before in
     let at-loop = stored .before .before .before .before .before in
-    let pre = at-loop .before .before .before .before .before .pre in
+    let pre = at-loop .before .before .before .before .pre in
     let part = stored .before .before .before .part .ensures in
     turn-committed (pre .0) (pre .1) (at-loop .loop .inv) part (stored .store .ensures) (test .if1 .taken)
     (c .before .before .commit-counted .ensures)
@@ -101,7 +96,7 @@ loop-again-2 : tie.Need-loop-again-2 Inv-loop μ-loop
 loop-again-2 c =
     let stored = c .before .before in
     let at-loop = stored .before .before .before .before .before in
-    let pre = at-loop .before .before .before .before .before .pre in
+    let pre = at-loop .before .before .before .before .pre in
     let part = stored .before .before .before .part .ensures in
     turn-appended (pre .0) (pre .1) (at-loop .loop .inv) part (stored .store .ensures) (c .if1 .left)
 
@@ -111,7 +106,7 @@ same-length c = search needs
 returns : tie.Need-returns Inv-loop μ-loop
 returns c =
     let turn = c .before .loop in
-    let start = c .before .before .before .before .before .before in
+    let start = c .before .before .before .before .before in
     let bytes = start .args .bytes .now in
     let all = rw (take-all (turn .i) bytes (c .loop-test .left)) at (turn .inv .progress) in
     (all, taken-formed (start .args .flash .now) (start .pre .0) _ bytes (start .pre .1) all)
@@ -122,7 +117,6 @@ take-spec =
     (tie.spec
     Inv-loop
     μ-loop
-    page-requires
     loop-holds
     sub-part
     part-requires

@@ -1,9 +1,7 @@
 -- `upload_ends::page_changed` meets its contract: the two pages are compared.
 use mathlib.Core.Path.{ap}
 use mathlib.Core.Bool.{not}
-use Rattle.state.specs.View.{page}
 use Rattle.upload_ends.specs.Ends.{pageChanged}
-use native.Mathlib.Omega.{arith}
 use borrow.Author.Needs.{needs}
 use Rattle.upload_ends.proofs.page_changed.Statement.{statement}
 use Rattle.upload_ends.proofs.page_changed.Tie as tie
@@ -12,19 +10,19 @@ from-requires : tie.Need-from-requires
 from-requires c κs = search needs
 
 page-of-requires : tie.Need-page-of-requires
-page-of-requires c κs = omega arith
+page-of-requires c κs = search needs
 
 from-requires-2 : tie.Need-from-requires-2
 from-requires-2 c κs = search needs
 
 page-of-requires-2 : tie.Need-page-of-requires-2
-page-of-requires-2 c κs = omega arith
+page-of-requires-2 c κs = search needs
 
 matches-requires : tie.Need-matches-requires
 matches-requires c κs = search needs
 
 returns : tie.Need-returns
-unfolding pageChanged page
+unfolding pageChanged
 returns c =
     let second = c .before in
     let first = second .before .before in
