@@ -12,7 +12,7 @@ const MOST: u32 = 4294967295;
 
 // The numbers of a line, its byte strings, and whether the line was good. What a line does not have is 0.
 pub struct Fields {
-    pub numbers: [usize; 8],
+    pub numbers: [usize; 9],
     pub first: [u8; 600],
     pub firstlen: usize,
     pub second: [u8; 600],
@@ -22,7 +22,7 @@ pub struct Fields {
 
 // How many numbers the line of a letter has.
 fn count(letter: u8) -> usize
-    ensures { λ r. ⌜ r ≤ 8 ⌝ }
+    ensures { λ r. ⌜ r ≤ 9 ⌝ }
 {
     match letter {
         b'Z' => 0,
@@ -32,7 +32,7 @@ fn count(letter: u8) -> usize
         b'D' | b'A' => 4,
         b'K' => 5,
         b'S' | b'E' => 6,
-        _ => 8,
+        _ => 9,
     }
 }
 
@@ -50,9 +50,9 @@ fn largest(letter: u8) -> usize {
 }
 
 // The numbers after the first that have a smaller range, or-ed together, are in it.
-fn in_range(letter: u8, n: [usize; 8]) -> bool {
+fn in_range(letter: u8, n: [usize; 9]) -> bool {
     match letter {
-        b'P' => (n[4] | n[5] | n[6] | n[7]) < 256,
+        b'P' => (n[5] | n[6] | n[7] | n[8]) < 256,
         b'S' => n[1] < 2,
         b'D' => n[2] < 256,
         b'V' => n[1] < 256,
@@ -81,7 +81,7 @@ fn lengths_right(letter: u8, first: usize, second: usize) -> bool {
 }
 
 // Whether the fields are those of the letter.
-fn right(letter: u8, n: [usize; 8], first: usize, second: usize) -> bool {
+fn right(letter: u8, n: [usize; 9], first: usize, second: usize) -> bool {
     n[0] <= largest(letter) && in_range(letter, n) && lengths_right(letter, first, second)
 }
 
@@ -96,7 +96,7 @@ fn read_string(there: bool, line: &[u8], at: usize, out: &mut [u8]) -> Field {
 
 // The fields of a line that begins with a letter and a space, or is the letter alone.
 pub fn fields_of(letter: u8, line: &[u8]) -> Fields {
-    let mut numbers = [0usize; 8];
+    let mut numbers = [0usize; 9];
     let k = count(letter);
     let at = read_numbers(line, 2, MOST, &mut numbers[..k]);
     let there = strings(letter);

@@ -25,6 +25,7 @@ fn no_profile() -> Profile {
     Profile {
         bus: Bus::I2c,
         longest: 0,
+        page: 0,
         size: 0,
         offset: 0,
         hardware: 0,
@@ -119,7 +120,7 @@ fn copy(to: &mut [u8], from: &[u8]) {
     }
 }
 
-// P bus M S O hardware compatible actual version serial
+// P bus M page S O hardware compatible actual version serial
 fn profile_of(f: Fields) -> Profile {
     let n = f.numbers;
     let given = f.first;
@@ -129,12 +130,13 @@ fn profile_of(f: Fields) -> Profile {
     Profile {
         bus: bus_of(n[0]),
         longest: n[1],
-        size: n[2],
-        offset: n[3],
-        hardware: byte(n[4]),
-        compatible: byte(n[5]),
-        actual: byte(n[6]),
-        version: byte(n[7]),
+        page: n[2],
+        size: n[3],
+        offset: n[4],
+        hardware: byte(n[5]),
+        compatible: byte(n[6]),
+        actual: byte(n[7]),
+        version: byte(n[8]),
         serial,
         seriallen: f.firstlen,
     }

@@ -8,12 +8,12 @@ use Rattle.rules.specs.Profile.{Profile}
 use Rattle.rules.specs.Frames.{request}
 use Rattle.ledger.specs.Calls.{Call, Frame}
 
--- M = 128, and a working flash of this size at 0
-abbrev pub small : Bus → ℕ → Profile
-small bus size = record {
+-- M = 128, a page, and a working flash of this size at 0
+abbrev pub paged : ℕ → Bus → ℕ → Profile
+paged page bus size = record {
   bus = bus;
   longest = 128;
-  page = 64;
+  page = page;
   size = size;
   offset = 0;
   hardware = 1;
@@ -22,6 +22,10 @@ small bus size = record {
   version = 1;
   serial = [];
 }
+
+-- with a page of 64 bytes
+abbrev pub small : Bus → ℕ → Profile
+small = paged 64
 
 -- a flash of zeros
 abbrev pub zeros : ℕ → List ℕ

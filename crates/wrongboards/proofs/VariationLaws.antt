@@ -81,6 +81,7 @@ pub varied-right : VariedRight
 varied-right = record {
   by-judgement = handlingBy-handled;
   by-rule = handlingBy-executed;
+  by-page = λ p s d c. refl;
   by-commit =
       λ p s d c. handlingBy-same (executing (committing committed)) (executing executed) executing-committed p s d c
       ∙ handlingBy-executed p s d c;

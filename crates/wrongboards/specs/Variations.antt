@@ -41,6 +41,24 @@ handlingBy judge p s d (Read a n) = calls p s d (Read a n)
 abbrev pub boardBy : (Profile → State → List ℕ → Call → Reaction State) → Board
 boardBy call = record { Kept = State; fresh = fresh; count = λ s. s .upload .count; call = call }
 
+-- W8: the same profile with another page, and the rules' board under the page that is made of its profile's
+abbrev pub withPage : Profile → ℕ → Profile
+withPage p page = record {
+  bus = p .bus;
+  longest = p .longest;
+  page = page;
+  size = p .size;
+  offset = p .offset;
+  hardware = p .hardware;
+  compatible = p .compatible;
+  actual = p .actual;
+  version = p .version;
+  serial = p .serial;
+}
+
+abbrev pub pagedBy : (ℕ → ℕ) → Board
+pagedBy change = boardBy (λ p s d c. calls (withPage p (change (p .page))) s d c)
+
 -- the call is a frame with this command
 abbrev pub asks : Profile → Call → ℕ → Bool
 asks p (Frame a f n) code = eqb (commandOf (p .bus) f) code
@@ -100,4 +118,5 @@ committedBy commit = ruledBy (committing commit)
 pub record VariedRight : Type 0 where
   pub by-judgement : (p : Profile) (s : State) (d : List ℕ) (c : Call) → handlingBy handled p s d c ≡ calls p s d c
   pub by-rule : (p : Profile) (s : State) (d : List ℕ) (c : Call) → handlingBy (executing executed) p s d c ≡ calls p s d c
+  pub by-page : (p : Profile) (s : State) (d : List ℕ) (c : Call) → pagedBy (λ page. page) .call p s d c ≡ calls p s d c
   pub by-commit : (p : Profile) (s : State) (d : List ℕ) (c : Call) → handlingBy (executing (committing committed)) p s d c ≡ calls p s d c

@@ -289,3 +289,11 @@ numberedSo running general f Long = 16
 numberedSo running general f WrongSum = 17
 numberedSo running general f (Foreign bus) = ignoredNumber (Foreign bus)
 numberedSo running general f OtherGeneral = general
+
+-- W8, pages of 128 bytes
+
+-- one that answers 4 where more than 63 bytes wait
+abbrev pub holds63 : Board
+holds63 =
+    boardBy (λ p s d c.
+    cond (ltb 63 (length (s .upload .waiting))) (record { number = 4; reply = []; state = s; flash = d }) (calls p s d c))

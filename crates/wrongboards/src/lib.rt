@@ -1,8 +1,8 @@
 // Boards that are right but for one error, and the demand that refuses each. The functions do nothing.
-ghost use mathlib.Core.Bool.{false};
+ghost use mathlib.Core.Bool.{false, cond};
 ghost use mathlib.Core.List.{List, []};
 ghost use Prim.Native.Nat.{ℕ, suc};
-ghost use lib.Dec.{ltb};
+ghost use lib.Dec.{eqb, ltb};
 ghost use lib.ListN.{set};
 ghost use Rattle.rules.specs.Commands.{reserved};
 ghost use Rattle.ledger.specs.Claim.{Demand3};
@@ -10,14 +10,14 @@ ghost use Rattle.demands.specs.Acceptance.{Demand2};
 ghost use Rattle.demands.specs.Untouched.{Demand1};
 ghost use Rattle.demands.specs.Replies.{EveryReply};
 ghost use Rattle.address_claims.specs.Addresses.{NeverReserved};
-ghost use Rattle.wrongboards.specs.Variations.{VariedRight};
+ghost use Rattle.wrongboards.specs.Variations.{pagedBy, VariedRight};
 ghost use Rattle.wrongboards.specs.WrongBoards.{refusesWrites, okToAll, runsAfterWrite, keepsFlash, firstPageOnly, inventsCount};
 ghost use Rattle.wrongboards.specs.WrongBoards.{fixedReply, padsLastPage, takesHalf, invalidCrcSent, countsUnchanged};
 ghost use Rattle.wrongboards.specs.WrongBoards.{finalizesOnStart, refusesFinalizes, changesReply, readsAs, obeysForeign};
 ghost use Rattle.wrongboards.specs.WrongBoards.{ignoresStart, takesForeignType, silentFaults, answersWrong, refusedErases};
 ghost use Rattle.wrongboards.specs.WrongBoards.{readsErase, writesOutside, growsFlash, erasesRunning, showsCount, countsWrites};
 ghost use Rattle.wrongboards.specs.WrongBoards.{refusesAddresses, refusesForeignType, refusesAndMoves, keepsTopBit};
-ghost use Rattle.wrongboards.specs.WrongBoards.{numbersIgnored, sumFirst, numberedSo};
+ghost use Rattle.wrongboards.specs.WrongBoards.{numbersIgnored, sumFirst, numberedSo, holds63};
 
 // The variations that the wrong boards are made by are right themselves: with the rules' own parts they are the board of the rules.
 pub fn varied_right()
@@ -196,4 +196,12 @@ pub fn refuses_foreign_type()
 pub fn wrong_silences()
     ensures { λ _. ⌜ (Demand2 (numbersIgnored (λ f reason. 1)) → ⊥) × (Demand2 (numbersIgnored sumFirst) → ⊥)
         × (Demand2 (numbersIgnored (numberedSo 1 18)) → ⊥) × (Demand2 (numbersIgnored (numberedSo 18 1)) → ⊥) ⌝ }
+{}
+
+// W8: a board that goes by pages of 64 bytes whatever its profile says: demand 3, no commit at 64 under 128; and every reply, S of 192 is
+// out of range under 128. One that takes a page of 96: every reply. One that holds 63 waiting bytes at most: demand 2, under 128 the
+// write after 64 bytes is accepted too.
+pub fn wrong_pages()
+    ensures { λ _. ⌜ (Demand3 (pagedBy (λ page. 64)) → ⊥) × (EveryReply (pagedBy (λ page. 64)) → ⊥)
+        × (EveryReply (pagedBy (λ page. cond (eqb page 96) 64 page)) → ⊥) × (Demand2 holds63 → ⊥) ⌝ }
 {}

@@ -1,0 +1,6 @@
+-- Proofs of W8's claims.
+pub mod Sizes
+pub mod Multiples
+pub mod HandedIn
+pub mod OfCode
+pub mod WrongCases
