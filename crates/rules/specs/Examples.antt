@@ -84,21 +84,6 @@ closed p c = sentTo p 8 c 0x07 []
 abbrev pub blank : Profile → Called
 blank p = nothing fresh (lent p (replicate 128 0xFF))
 
--- E10's write, and its finalize
-unfoldable pub seventy : Profile → Called
-seventy p = filled p (blank p) 70 0x11
-
-unfoldable pub uploaded : Profile → Called
-uploaded p = closed p (seventy p)
-
--- the flash filled to its end
-unfoldable pub full : Called
-full = filled exampleBoard (blank exampleBoard) 128 0x11
-
--- one byte more than that
-unfoldable pub over : Called
-over = filled exampleBoard (blank exampleBoard) 129 0x11
-
 -- a fresh board built so, with flash and reply buffer long enough: 0, or the number that refuses it
 abbrev pub refusedAs : Profile → ℕ
 refusedAs p = refusal p fresh (p .offset + p .size) (p .longest)
@@ -152,33 +137,88 @@ gaugeBoard = builtOf 128 I2c 256 128 0 1 []
 abbrev pub countAfter : Called → ℕ
 countAfter c = c .state .upload .count
 
--- E11's upload and E12's, up to their finalizes
-unfoldable pub repeated : Profile → Called
-repeated p = closed p (filled p (uploaded p) 70 0x11)
-
-unfoldable pub extended : Profile → Called
-extended p = closed p (byteAt p (uploaded p) 70 0x22)
+-- how many bytes wait after it
+abbrev pub waitingAfter : Called → ℕ
+waitingAfter c = length (c .state .upload .waiting)
 
 -- E10 to E12 on a board, with the replies to their finalizes, whose counts are 2, 0 and 3
 unfoldable pub uploadRows : Profile → List ℕ → List ℕ → List ℕ → List Row
 uploadRows p two zero three =
+    let written : Called = filled p (blank p) 70 0x11 in
+    let finished : Called = closed p written in
+    let repeated : Called = closed p (filled p finished 70 0x11) in
+    let extended : Called = closed p (byteAt p finished 70 0x22) in
     -- E10: 70 bytes 0x11 from 0 on: count 1, w = 6
-    row 10 (countAfter (seventy p) ∷ length (seventy p .state .upload .waiting) ∷ []) (1 ∷ 6 ∷ [])
+    row 10 (countAfter written ∷ waitingAfter written ∷ []) (1 ∷ 6 ∷ [])
     -- finalize: count 2
-    ∷ row 10 (countAfter (uploaded p) ∷ uploaded p .reply) (2 ∷ two)
+    ∷ row 10 (countAfter finished ∷ finished .reply) (2 ∷ two)
     -- bytes 70 to 127 still 0xFF, and those outside the working flash as they were
-    ∷ row 10 (uploaded p .flash) (lent p (replicate 70 0x11 ++ replicate 58 0xFF))
+    ∷ row 10 (finished .flash) (lent p (replicate 70 0x11 ++ replicate 58 0xFF))
     -- E11: the same upload again, count 0
-    ∷ row 11 (countAfter (repeated p) ∷ repeated p .reply) (0 ∷ zero)
-    ∷ row 11 (repeated p .flash) (lent p (replicate 70 0x11 ++ replicate 58 0xFF))
+    ∷ row 11 (countAfter repeated ∷ repeated .reply) (0 ∷ zero)
+    ∷ row 11 (repeated .flash) (lent p (replicate 70 0x11 ++ replicate 58 0xFF))
     -- E12: E10, then byte 0x22 at 70 and a finalize: count 3
-    ∷ row 12 (countAfter (extended p) ∷ extended p .reply) (3 ∷ three)
-    ∷ row 12 (extended p .flash) (lent p (replicate 70 0x11 ++ 0x22 ∷ replicate 57 0xFF))
+    ∷ row 12 (countAfter extended ∷ extended .reply) (3 ∷ three)
+    ∷ row 12 (extended .flash) (lent p (replicate 70 0x11 ++ 0x22 ∷ replicate 57 0xFF))
     ∷ []
 
 -- at O = 0, and with the working flash amid the lent one
 abbrev pub offsetRows : Bus → List ℕ → List ℕ → List ℕ → List Row
 offsetRows bus two zero three = uploadRows (exampleAt bus 0) two zero three ++ uploadRows (exampleAt bus 192) two zero three
+
+-- the edges that the examples name, with S = 64 and M = 32 where that is enough
+unfoldable pub edgeRows : List Row
+edgeRows =
+    let small : Profile = built I2c 256 64 0 1 [] in
+    let short : Profile = built I2c 32 128 0 1 [] in
+    let start : Called = blank exampleBoard in
+    let full : Called = filled small start 64 0x11 in
+    let over : Called = filled small start 65 0x11 in
+    let finished : Called = closed exampleBoard (filled exampleBoard start 70 0x11) in
+    -- write ending at S, and at S + 1
+    row 13 (full .state .upload .next ∷ full .reply) (64 ∷ 0x00 ∷ 0x00 ∷ 0xD7 ∷ [])
+    ∷ row 14 (over .state .upload .next ∷ over .reply) (0 ∷ 0x05 ∷ 0x00 ∷ 0x96 ∷ [])
+    -- empty write at next = S
+    ∷ row 15 (sentTo small 8 full 0x06 (0 ∷ 64 ∷ []) .reply) (0x00 ∷ 0x00 ∷ 0xD7 ∷ [])
+    -- frame of M bytes, and of M + 1 bytes
+    ∷ row 16 (filled short start 28 0x11 .reply) (0x00 ∷ 0x00 ∷ 0xD7 ∷ [])
+    ∷ row 17 (filled short start 29 0x11 .reply) (0x03 ∷ 0x00 ∷ 0xE8 ∷ [])
+    -- finalize twice
+    ∷ row 18 (closed exampleBoard finished .reply) (0x00 ∷ 0x02 ∷ 0x00 ∷ 0x02 ∷ 0x09 ∷ [])
+    -- the default range ends at 15
+    ∷ row 19 (sentTo exampleBoard 15 start 0x07 [] .number ∷ sentTo exampleBoard 16 start 0x07 [] .number ∷ []) (0 ∷ 1 ∷ [])
+    -- one byte over that upload, finalized: the page's other bytes stay, those before the upload's end too
+    ∷ row 20 (take 70 (closed exampleBoard (filled exampleBoard finished 1 0x22) .flash)) (0x22 ∷ replicate 69 0x11)
+    ∷ []
+
+-- W8: pages of 128 bytes
+unfoldable pub pageRows : List Row
+pageRows =
+    let most : Called = filled gaugeBoard (blank gaugeBoard) 127 0x11 in
+    let committed : Called = byteAt gaugeBoard most 127 0x11 in
+    let written : Called = filled gaugeBoard (blank gaugeBoard) 70 0x11 in
+    let finished : Called = closed gaugeBoard written in
+    let stated : List ℕ = replicate 70 0x11 ++ replicate 58 0xFF in
+    -- number 2: pages, with S of two pages
+    row 42 (map examplePage (32 ∷ 63 ∷ 64 ∷ 65 ∷ 96 ∷ 127 ∷ 128 ∷ 129 ∷ 192 ∷ 256 ∷ [])) (2 ∷ 2 ∷ 0 ∷ 2 ∷ 2 ∷ 2 ∷ 0 ∷ 2 ∷ 2 ∷ 2 ∷ [])
+    -- S and O under a page of 128: multiples of 64, and of 128
+    ∷ row 43 (map (λ (S : ℕ). refusedAs (builtOf 128 I2c 256 S 0 1 [])) (64 ∷ 128 ∷ 192 ∷ 65408 ∷ 65472 ∷ 65536 ∷ []))
+    (2 ∷ 0 ∷ 2 ∷ 0 ∷ 2 ∷ 2 ∷ [])
+    ∷ row 44 (map (λ (O : ℕ). refusedAs (builtOf 128 Rs485 256 128 O 1 [])) (0 ∷ 64 ∷ 128 ∷ 65408 ∷ 65472 ∷ []))
+    (0 ∷ 2 ∷ 0 ∷ 0 ∷ 2 ∷ [])
+    -- number 4: w of 127 before the page's end, of 1 at it; states of one page handed to a board with the other
+    ∷ row 45 (givenTo gaugeBoard (stateAt 127 127 0 0) ∷ givenTo gaugeBoard (stateAt 128 1 0 0) ∷ givenTo gaugeBoard (stateAt 70 70 0 0)
+    ∷ givenTo exampleBoard (stateAt 70 70 0 0) ∷ givenTo exampleBoard (stateAt 70 6 1 0) ∷ givenTo gaugeBoard (stateAt 70 6 1 0) ∷ [])
+    (0 ∷ 4 ∷ 0 ∷ 4 ∷ 0 ∷ 0 ∷ [])
+    -- E10's write: count 0, w = 70; finalize: count 1; the same upload again: count 0
+    ∷ row 46 (countAfter written ∷ waitingAfter written ∷ countAfter finished
+    ∷ countAfter (closed gaugeBoard (filled gaugeBoard finished 70 0x11)) ∷ []) (0 ∷ 70 ∷ 1 ∷ 0 ∷ [])
+    ∷ row 46 (finished .flash) stated
+    -- 127 bytes wait, and the 128th commits all
+    ∷ row 47 (waitingAfter most ∷ waitingAfter committed ∷ countAfter committed ∷ []) (127 ∷ 0 ∷ 1 ∷ [])
+    -- E10's write under 64 bytes, finalized under 128: its last 6 bytes at their places
+    ∷ row 48 (closed gaugeBoard (filled exampleBoard (blank exampleBoard) 70 0x11) .flash) stated
+    ∷ []
 
 unfoldable pub rows : List Row
 rows =
@@ -206,23 +246,10 @@ rows =
     -- and on RS485
     ++ offsetRows Rs485 (0x08 ∷ 0x00 ∷ 0x02 ∷ 0x00 ∷ 0x02 ∷ 0xE5 ∷ 0xC0 ∷ []) (0x08 ∷ 0x00 ∷ 0x02 ∷ 0x00 ∷ 0x00 ∷ 0x64 ∷ 0x01 ∷ [])
     (0x08 ∷ 0x00 ∷ 0x02 ∷ 0x00 ∷ 0x03 ∷ 0x24 ∷ 0x00 ∷ [])
-    -- edges: write ending at S, and at S + 1
-    ++ row 13 (full .state .upload .next ∷ full .reply) (128 ∷ 0x00 ∷ 0x00 ∷ 0xD7 ∷ [])
-    ∷ row 14 (over .state .upload .next ∷ over .reply) (0 ∷ 0x05 ∷ 0x00 ∷ 0x96 ∷ [])
-    -- empty write at next = S
-    ∷ row 15 (sentTo exampleBoard 8 full 0x06 (0 ∷ 128 ∷ []) .reply) (0x00 ∷ 0x00 ∷ 0xD7 ∷ [])
-    -- frame of M bytes, which S is too short for, and of M + 1 bytes
-    ∷ row 16 (filled exampleBoard (blank exampleBoard) 252 0x11 .reply) (0x05 ∷ 0x00 ∷ 0x96 ∷ [])
-    ∷ row 17 (filled exampleBoard (blank exampleBoard) 253 0x11 .reply) (0x03 ∷ 0x00 ∷ 0xE8 ∷ [])
-    -- finalize twice
-    ∷ row 18 (closed exampleBoard (uploaded exampleBoard) .reply) (0x00 ∷ 0x02 ∷ 0x00 ∷ 0x02 ∷ 0x09 ∷ [])
-    -- the default range ends at 15
-    ∷ row 19 (sentTo exampleBoard 15 (blank exampleBoard) 0x07 [] .number ∷ sentTo exampleBoard 16 (blank exampleBoard) 0x07 [] .number
-    ∷ []) (0 ∷ 1 ∷ [])
-    -- one byte over that upload, finalized: the page's other bytes stay, those before the upload's end too
-    ∷ row 20 (take 70 (closed exampleBoard (filled exampleBoard (uploaded exampleBoard) 1 0x22) .flash)) (0x22 ∷ replicate 69 0x11)
+    -- edges
+    ++ edgeRows
     -- number 2: M of 31, 32, 256, 257
-    ∷ row 21 (refusedAs (built I2c 31 128 0 1 []) ∷ refusedAs (built I2c 32 128 0 1 []) ∷ refusedAs (built Rs485 256 128 0 1 [])
+    ++ row 21 (refusedAs (built I2c 31 128 0 1 []) ∷ refusedAs (built I2c 32 128 0 1 []) ∷ refusedAs (built Rs485 256 128 0 1 [])
     ∷ refusedAs (built Rs485 257 128 0 1 []) ∷ []) (2 ∷ 0 ∷ 0 ∷ 2 ∷ [])
     -- S of half a page, a page, 65,472, 65,536; O of half a page, 65,472, 65,536
     ∷ row 22 (refusedAs (built I2c 256 32 0 1 []) ∷ refusedAs (built I2c 256 64 0 1 []) ∷ refusedAs (built I2c 256 65472 0 1 [])
@@ -281,24 +308,4 @@ rows =
     ∷ row 41 (map (exampleSilence true) ([] ∷ replicate 33 7 ∷ (8 ∷ 0x00 ∷ 0x06 ∷ 0x71 ∷ []) ∷ request Rs485 7 0x00 []
     ∷ resetFrame Rs485 ∷ []))
     (1 ∷ 1 ∷ 1 ∷ 1 ∷ 1 ∷ [])
-    -- W8, number 2: pages, with S of two pages
-    ∷ row 42 (map examplePage (32 ∷ 63 ∷ 64 ∷ 65 ∷ 96 ∷ 127 ∷ 128 ∷ 129 ∷ 192 ∷ 256 ∷ [])) (2 ∷ 2 ∷ 0 ∷ 2 ∷ 2 ∷ 2 ∷ 0 ∷ 2 ∷ 2 ∷ 2 ∷ [])
-    -- S and O under a page of 128: multiples of 64, and of 128
-    ∷ row 43 (map (λ (S : ℕ). refusedAs (builtOf 128 I2c 256 S 0 1 [])) (64 ∷ 128 ∷ 192 ∷ 65408 ∷ 65472 ∷ 65536 ∷ []))
-    (2 ∷ 0 ∷ 2 ∷ 0 ∷ 2 ∷ 2 ∷ [])
-    ∷ row 44 (map (λ (O : ℕ). refusedAs (builtOf 128 Rs485 256 128 O 1 [])) (0 ∷ 64 ∷ 128 ∷ 65408 ∷ 65472 ∷ []))
-    (0 ∷ 2 ∷ 0 ∷ 0 ∷ 2 ∷ [])
-    -- number 4: w of 127 before the page's end, of 1 at it; states of one page handed to a board with the other
-    ∷ row 45 (givenTo gaugeBoard (stateAt 127 127 0 0) ∷ givenTo gaugeBoard (stateAt 128 1 0 0) ∷ givenTo gaugeBoard (stateAt 70 70 0 0)
-    ∷ givenTo exampleBoard (stateAt 70 70 0 0) ∷ givenTo exampleBoard (stateAt 70 6 1 0) ∷ givenTo gaugeBoard (stateAt 70 6 1 0) ∷ [])
-    (0 ∷ 4 ∷ 0 ∷ 4 ∷ 0 ∷ 0 ∷ [])
-    -- E10's write: count 0, w = 70; finalize: count 1; the same upload again: count 0
-    ∷ row 46 (countAfter (seventy gaugeBoard) ∷ length (seventy gaugeBoard .state .upload .waiting) ∷ countAfter (uploaded gaugeBoard)
-    ∷ countAfter (repeated gaugeBoard) ∷ []) (0 ∷ 70 ∷ 1 ∷ 0 ∷ [])
-    ∷ row 46 (uploaded gaugeBoard .flash) (replicate 70 0x11 ++ replicate 58 0xFF)
-    -- 127 bytes wait, the 128th commits all
-    ∷ row 47 (map (λ (n : ℕ). length (filled gaugeBoard (blank gaugeBoard) n 0x11 .state .upload .waiting)) (127 ∷ 128 ∷ [])
-    ++ countAfter (filled gaugeBoard (blank gaugeBoard) 128 0x11) ∷ []) (127 ∷ 0 ∷ 1 ∷ [])
-    -- E10's write under 64 bytes, finalized under 128: its last 6 bytes at their places
-    ∷ row 48 (closed gaugeBoard (seventy exampleBoard) .flash) (replicate 70 0x11 ++ replicate 58 0xFF)
-    ∷ []
+    ∷ pageRows

@@ -11,7 +11,7 @@ use Rattle.rules.specs.Commit.{committed, taken, takenAll, finalized}
 use Rattle.rules.specs.Commands.{tabled, setAddress, written, finished, shown, performed, executed}
 use Rattle.rules.specs.Board.{handled, received}
 use Rattle.rules.specs.Master.{commandWrong, argumentWrong, requestBytes, encoded, versionRule, runningReset}
-use Rattle.rules.specs.Examples.{disagreeing, rows, sentTo, seventy, uploaded, repeated, extended, uploadRows, full, over}
+use Rattle.rules.specs.Examples.{disagreeing, rows, sentTo, uploadRows, edgeRows, pageRows}
 use Rattle.rules.proofs.examples.worked_examples.Statement.{statement}
 use Rattle.rules.proofs.examples.worked_examples.Tie as tie
 
@@ -20,7 +20,7 @@ unfolding same overlay inRange uploadFormed wellFormed refusal
     bit byte run sum sealed sumRight request reply resetFrame resetAddressFrame addressed framing verdict
     committed taken takenAll finalized tabled setAddress written finished shown performed executed handled received
     commandWrong argumentWrong requestBytes encoded versionRule runningReset
-    disagreeing rows sentTo seventy uploaded repeated extended uploadRows full over
+    disagreeing rows sentTo uploadRows edgeRows pageRows
 rows-agree = refl
 
 returns : tie.Need-returns
