@@ -114,7 +114,7 @@ fn with_longest(mut p: Profile, value: &[u8]) -> Described {
     right(p)
 }
 
-// Another page, of which S and O so far are multiples.
+// The page, of which S and O so far are multiples.
 fn with_page(mut p: Profile, value: &[u8]) -> Described {
     let got = number(b"page", value, 0, 1000000);
     let Parsed::Value(n) = got else {
@@ -124,15 +124,16 @@ fn with_page(mut p: Profile, value: &[u8]) -> Described {
         fault(b"page", value, b": 64 or 128\n", 0);
         return wrong(p);
     }
-    if p.size % n != 0 {
+    p.page = n;
+    let page = page_size(p);
+    if p.size % page != 0 {
         fault(b"page", value, b": S % is no multiple of it\n", p.size);
         return wrong(p);
     }
-    if p.offset % n != 0 {
+    if p.offset % page != 0 {
         fault(b"page", value, b": O % is no multiple of it\n", p.offset);
         return wrong(p);
     }
-    p.page = n;
     right(p)
 }
 
