@@ -1,5 +1,5 @@
 #!/usr/bin/env python3
-"""Random scripts through the bench, its alarms, the numbers from 15 up and its tally held to a small board of our own in Python.
+"""Random scripts through the bench, its alarms, pages, numbers from 15 up and tally held to a small board of our own in Python.
 
 The alarms and the count are proved as functions; that the bench asks them about the right call, state and flash is tested here.
     tests/lessons/alarms.py BENCH SEED SCRIPTS
@@ -10,10 +10,11 @@ import subprocess
 import sys
 import tempfile
 
-PAGE = 64
+PAGES = (64, 128)
 LONGEST = 64
 DROPPED = (15, 16, 17, 18)
 ENDS = ("upload done", "holds the whole image", "partly uploaded", "not uploaded", "not begun")
+PAGED = ("still wait", "pages", "since the first write", "map")
 RESETS = ("the bootloader answers", "the bootloader runs already", "the application still runs", "no version came after", "no version came:")
 
 
@@ -42,15 +43,27 @@ class Board:
 
     def __init__(self, flash):
         self.flash = flash
-        self.setup("i2c", 1024, 0)
+        self.setup("i2c", 64, 1024, 0)
         self.hit = {"byte": None, "reply": None}
         self.silences = 0
 
-    def setup(self, bus, size, offset):
-        self.bus, self.size, self.offset = bus, size, offset
+    def setup(self, bus, page, size, offset):
+        self.bus, self.page, self.size, self.offset = bus, page, size, offset
+        self.restart_map()
         self.fresh()
         self.last, self.answers = 0, False
         self.clear_tally()
+
+    def restart_map(self):
+        """How often each page was rewritten, and which pages the last line rewrote."""
+        self.times, self.rewritten = [0] * (self.size // self.page), []
+
+    def map(self):
+        """The rows of the map: the address of each, and its marks."""
+        marks = [".123456789"[n] if n < 10 else "+" for n in self.times]
+        if self.held:
+            marks[self.next // self.page] = "w"
+        return [(k * self.page, "".join(marks[k:k + 32])) for k in range(0, len(marks), 32)]
 
     def clear_tally(self):
         self.tally = {n: 0 for n in (0, *DROPPED)}
@@ -67,6 +80,8 @@ class Board:
         if self.flash[at:at + len(self.held)] != self.held:
             self.flash[at:at + len(self.held)] = self.held
             self.count += 1
+            self.times[self.place() // self.page] += 1
+            self.rewritten.append(self.place() // self.page)
         self.held = b""
 
     def strikes(self, what, length):
@@ -180,7 +195,7 @@ class Board:
             for b in data:
                 self.held += bytes([b])
                 self.next += 1
-                if self.next % PAGE == 0:
+                if self.next % self.page == 0:
                     self.commit()
             return 0, 0, False
         if command == "finalize":
@@ -198,6 +213,7 @@ class Expected:
     def __init__(self):
         self.lost, self.waiting, self.unworn, self.end, self.silent = [], [], 0, None, 0
         self.numbers, self.tally = [], None
+        self.pages, self.since, self.map = [], None, None
 
 
 def lost(board, place, held):
@@ -259,15 +275,18 @@ def upload(board, e, data, frame):
     elif whole:
         e.end = "holds the whole image"
     else:
-        e.end = "not uploaded" if bytes(board.flash) == before else "partly uploaded"
+        starts = range(board.offset, board.offset + board.size, board.page)
+        e.since = [k for k, at in enumerate(starts) if board.flash[at:at + board.page] != before[at:at + board.page]] or None
+        e.end = "partly uploaded" if e.since else "not uploaded"
 
 
-def line(board, rng):
-    """A line of a script, and what the bench must say after it."""
+def line(board, rng, kind=None):
+    """A line of a script, of a kind perhaps, and what the bench must say after it."""
     e = Expected()
     silences = board.silences
-    board.numbers = e.numbers
-    text = make_line(board, rng, e)
+    board.numbers, board.rewritten = e.numbers, []
+    text = make_line(board, rng, e, kind)
+    e.page, e.pages = board.page, None if text.startswith("upload") else board.rewritten
     e.silent = board.silences - silences
     return text, e
 
@@ -297,26 +316,30 @@ def raw_frame(board, rng):
     return to, frame, f"send {shown.hex()}"
 
 
-def make_line(board, rng, e):
+def make_line(board, rng, e, kind):
     often = ["write"] * 8 + ["finalize"] * 3 + ["upload"] * 3 + ["damage"] * 4 + ["reset"] * 2 + ["send"] * 6
-    seldom = ["start", "reset-address", "version", "read-again", "board", "flash", "application", "reset-running", "tally"]
-    kind = rng.choice(often + seldom)
+    seldom = ["start", "reset-address", "version", "read-again", "board", "flash", "application", "reset-running", "tally", "map"]
+    kind = kind or rng.choice(often + seldom)
     if board.running and rng.random() < 0.5:
         kind = rng.choice(["application", "damage", "damage", "version", "read-again", "reset-running", "reset-running", "send"])
     byte = rng.choice([0x00, 0x11, 0x22, 0xff])
     if kind == "board":
         place, held, offset = board.place(), board.held, board.offset
-        bus, size, new = rng.choice(["i2c", "rs485"]), rng.choice([128, 256]), rng.choice([0, 128])
+        bus, page = rng.choice(["i2c", "rs485"]), rng.choice(PAGES)
+        size, new = page * rng.choice([2, 3, 4, 66]), page * rng.choice([0, 1, 2])
         n = sum(board.flash[offset + place + i] != b for i, b in enumerate(held))
-        board.setup(bus, size, new)
+        board.setup(bus, page, size, new)
         e.lost = [n] if n else []
-        return f"board {bus} S {size} O {new}"
+        words = [f"S {size}", f"O {new}"] + ([] if page == 64 and rng.random() < 0.5 else [f"page {page}"])
+        rng.shuffle(words)
+        return f"board {bus} {' '.join(words)}"
     if kind == "flash":
         board.flash[:] = bytes([byte]) * len(board.flash)
+        board.restart_map()
         e.waiting = [len(board.held)] if board.held else []
         return f"flash fill {byte:02x}"
     if kind == "damage":
-        what, n, after = rng.choice(["byte", "reply"]), rng.randint(1, 6), rng.choice([0, 0, 0, 1, 2, 3, 5])
+        what, n, after = rng.choice(["byte", "reply"]), rng.randint(1, 6), rng.choice([0, 0, 0, 1, 2, 3, 4, 5, 6])
         if board.running:
             # the reset of a reset-running is its second frame, and has one byte on I2C
             n, after = rng.choice([1, 1, n]), rng.choice([1, 1, after])
@@ -329,11 +352,14 @@ def make_line(board, rng, e):
         text, shown = show_tally(board)
         e.tally = shown.tally
         return text
+    if kind == "map":
+        e.map = board.map()
+        return kind
     if kind == "application":
         board.answers, board.answered = rng.random() < 0.7, False
         return f"application {'answers' if board.answers else 'silent'}"
     if kind == "upload":
-        data, frame = bytes([byte]) * rng.randint(1, 270), rng.choice([20, 40, 58])
+        data, frame = bytes([byte]) * rng.randint(1, 4 * board.page + 14), rng.choice([20, 40, 58])
         upload(board, e, data, frame)
         e.waiting = None
         return f"upload fill {byte:02x} {len(data)} frames {frame}"
@@ -375,6 +401,10 @@ def said(text):
     e.silent = len(re.findall(r"\*\* (?:no reply: |nothing to read)", text))
     e.numbers = [int(n) for n in re.findall(r"^  number (1[5-8]), ", text, flags=re.M)]
     e.tally = [int(n) for n in re.findall(r"^    (?:answered 0|1[5-8] [a-z ]+): (\d+)", text, flags=re.M)] or None
+    e.pages = [int(k) for k in re.findall(r"^  changed: page (\d+) erased and rewritten$", text, flags=re.M)]
+    since = re.search(r"^  changed since the first write: page((?: \d+)+)$", text, flags=re.M)
+    e.since = [int(k) for k in since[1].split()] if since else None
+    e.map = [(int(at), marks) for at, marks in re.findall(r"^ {2,6}(\d+)  ([.1-9+w]+)$", text, flags=re.M)] or None
     ends = [w for w in ENDS + RESETS if w in text]
     e.end = ends[0] if len(ends) == 1 else (ends or None)
     return e
@@ -393,7 +423,8 @@ def main():
     seen = {}
     for k in range(scripts):
         board = Board(bytearray(b"\xff" * 131072))
-        steps = [line(board, rng) for _ in range(rng.randint(5, 40))] + [show_tally(board)]
+        begin = [line(board, rng, "board")] if rng.random() < 0.7 else []
+        steps = begin + [line(board, rng) for _ in range(rng.randint(5, 40))] + [show_tally(board)]
         out, status = run(bench, [t for t, _ in steps])
         failed = any(e.end in ENDS[1:] for _, e in steps)
         alarmed = failed or board.silences or board.held or any(e.lost for _, e in steps)
@@ -405,11 +436,14 @@ def main():
             got = said(chunk)
             parts = [("lost", e.lost, got.lost), ("0 pages erased", e.unworn, got.unworn), ("end", e.end, got.end), ("silent", e.silent, got.silent)]
             parts += [(f"number {n}", e.numbers.count(n), got.numbers.count(n)) for n in DROPPED] + [("tally", e.tally, got.tally)]
+            parts += [("since the first write", e.since, got.since), ("map", e.map, got.map)]
+            if e.pages is not None:
+                parts.append(("pages", e.pages, got.pages))
             if e.waiting is not None:
                 parts.append(("still wait", e.waiting, got.waiting))
             for name, want, have in parts:
                 if want:
-                    case = want if name == "end" else name
+                    case = want if name == "end" else f"{name} of {e.page}" if name in PAGED else name
                     seen[case] = seen.get(case, 0) + 1
                 if want != have:
                     print(f"script {k} of seed {seed}, line {i + 1}, {text}: {name} {have}, not {want}")
@@ -419,7 +453,8 @@ def main():
         if len(chunks) != len(steps):
             sys.exit(f"script {k} of seed {seed}: {len(chunks)} lines of {len(steps)} were run")
     print(f"{scripts} scripts, alarms as expected: " + ", ".join(f"{n} {c}" for n, c in sorted(seen.items())))
-    missing = {"lost", "still wait", "0 pages erased", "silent", "tally", *(f"number {n}" for n in DROPPED), *ENDS, *RESETS} - set(seen)
+    cases = {"lost", "0 pages erased", "silent", "tally", *ENDS, *RESETS}
+    missing = (cases | {f"number {n}" for n in DROPPED} | {f"{name} of {page}" for name in PAGED for page in PAGES}) - set(seen)
     if missing and scripts >= 100:
         sys.exit(f"never seen: {missing}")
 

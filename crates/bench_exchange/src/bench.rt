@@ -72,6 +72,7 @@ pub fn default_profile(bus: Bus) -> Profile {
     Profile {
         bus,
         longest: 64,
+        page: State::SMALLEST_PAGE,
         size: 1024,
         offset: 0,
         hardware: 7,

@@ -13,7 +13,7 @@ pub const COPY: usize = FLASH;
 
 pub const COUNTS: usize = COPY + FLASH;
 // The most pages that a working flash has.
-pub const PAGES: usize = State::LARGEST_FLASH / State::PAGE;
+pub const PAGES: usize = State::LARGEST_FLASH / State::SMALLEST_PAGE;
 // The flash before the first write of an upload.
 pub const EARLIER: usize = COUNTS + PAGES;
 // The bytes that a line gives, as many as the flash has at the most; a file with more can be told by one byte more.

@@ -11,7 +11,6 @@ use bench_output::increment;
 use bench_output::say;
 use bench_output::tell;
 use profile::Profile;
-use profile::page;
 use state::State;
 ghost use Prim.Native.Nat.{_<_, _≤_};
 ghost use Rattle.state.specs.View.{largestPage};
@@ -20,7 +19,7 @@ ghost use Rattle.state.specs.View.{largestPage};
 pub fn page_size(p: Profile) -> usize
     ensures { λ r. ⌜ (0 < r) × (r ≤ largestPage) ⌝ }
 {
-    let size = page(p);
+    let size = p.page;
     if size == 0 {
         return State::LARGEST_PAGE;
     }
@@ -70,8 +69,9 @@ fn copy_page(offset: usize, size: usize, page: usize, memory: &mut [u8])
 }
 
 // Whether a page of the flash is another than at a place where a copy of the flash stands.
-fn differs(offset: usize, page: usize, earlier: usize, memory: &[u8]) -> bool {
+fn differs(offset: usize, size: usize, page: usize, earlier: usize, memory: &[u8]) -> bool {
     upload_ends::page_changed(
+        size,
         offset,
         page,
         part(memory, earlier, FLASH),
@@ -83,7 +83,7 @@ fn differs(offset: usize, page: usize, earlier: usize, memory: &[u8]) -> bool {
 fn track_page(verbose: bool, offset: usize, size: usize, page: usize, memory: &mut [u8]) -> bool
     requires { ⌜ size ≤ largestPage ⌝ }
 {
-    if !differs(offset, page, COPY, memory) {
+    if !differs(offset, size, page, COPY, memory) {
         return false;
     }
     copy_page(offset, size, page, memory);
@@ -123,9 +123,10 @@ pub fn track(verbose: bool, p: Profile, next: usize, memory: &mut [u8]) -> bool 
 pub fn tell_uploaded(p: Profile, memory: &[u8]) {
     say(b"  changed since the first write: page");
     let offset = p.offset;
+    let size = p.page;
     let mut page = 0;
     while page < PAGES {
-        if differs(offset, page, EARLIER, memory) {
+        if differs(offset, size, page, EARLIER, memory) {
             tell(b" %", page);
         }
         page += 1;

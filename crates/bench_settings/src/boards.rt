@@ -22,6 +22,7 @@ ghost use Prim.Native.Nat.{_<_};
 // A name in a `board` line.
 enum Field {
     Longest,
+    Page,
     Size,
     Offset,
     Byte(ByteField),
@@ -40,6 +41,9 @@ enum ByteField {
 fn field_named(name: &[u8]) -> Field {
     if is(name, b"M") {
         return Field::Longest;
+    }
+    if is(name, b"page") {
+        return Field::Page;
     }
     if is(name, b"S") {
         return Field::Size;
@@ -110,6 +114,29 @@ fn with_longest(mut p: Profile, value: &[u8]) -> Described {
     right(p)
 }
 
+// The page, of which S and O so far are multiples.
+fn with_page(mut p: Profile, value: &[u8]) -> Described {
+    let got = number(b"page", value, 0, 1000000);
+    let Parsed::Value(n) = got else {
+        return wrong(p);
+    };
+    if n != State::SMALLEST_PAGE && n != State::LARGEST_PAGE {
+        fault(b"page", value, b": 64 or 128\n", 0);
+        return wrong(p);
+    }
+    p.page = n;
+    let page = page_size(p);
+    if p.size % page != 0 {
+        fault(b"page", value, b": S % is no multiple of it\n", p.size);
+        return wrong(p);
+    }
+    if p.offset % page != 0 {
+        fault(b"page", value, b": O % is no multiple of it\n", p.offset);
+        return wrong(p);
+    }
+    right(p)
+}
+
 // S or O: a number of whole pages.
 fn paged(name: &[u8], value: &[u8], least: usize, page: usize) -> Parsed
     requires { ⌜ 0 < page ⌝ }
@@ -172,6 +199,7 @@ fn with(p: Profile, name: &[u8], value: &[u8]) -> Described {
     let field = field_named(name);
     match field {
         Field::Longest => with_longest(p, value),
+        Field::Page => with_page(p, value),
         Field::Size => with_size(p, value),
         Field::Offset => with_offset(p, value),
         Field::Byte(f) => with_byte(p, f, name, value),
@@ -230,7 +258,7 @@ pub(crate) fn set_board(d: Bench, s: &[u8], memory: &mut [u8]) -> Bench {
     let got = on_bus(s);
     if !got.fine {
         return d.refused(
-            b"board i2c or board rs485, then any of M n, S n, O n, type n, compatible n, actual n, bootloader n, serial HEX",
+            b"board i2c or board rs485, then any of M n, page n, S n, O n, type n, compatible n, actual n, bootloader n, serial HEX",
         );
     }
     let p = got.profile;

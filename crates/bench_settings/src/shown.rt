@@ -31,8 +31,8 @@ pub(crate) fn show_profile(p: Profile) {
     let bus = p.bus;
     tell_bus(bus);
     tell_all(
-        b"M %, S %, O %, type %\n",
-        [p.longest, p.size, p.offset, as_usize(p.hardware), 0],
+        b"M %, page %, S %, O %, type %\n",
+        [p.longest, p.page, p.size, p.offset, as_usize(p.hardware)],
     );
 }
 
@@ -161,7 +161,7 @@ fn show_map(d: Bench, memory: &[u8]) {
 fn show_help() {
     say(
         b"  Numbers are decimal, or hexadecimal behind 0x; bytes, HEX and BYTE are hexadecimal digits. The first byte of a frame is byte 1.
-  board i2c|rs485 [M n] [S n] [O n] [type n] [compatible n] [actual n] [bootloader n] [serial HEX]
+  board i2c|rs485 [M n] [page 64|128] [S n] [O n] [type n] [compatible n] [actual n] [bootloader n] [serial HEX]
   flash fill BYTE | flash file NAME              the flash that the board is lent
   version | info | serial | revision | longest   ask the board
   set-address ADDRESS type TYPE                  give the board an address; type 0 is any

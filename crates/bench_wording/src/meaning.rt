@@ -32,7 +32,7 @@ pub fn tell_number(n: usize) {
     say_piece(
         n,
         b"  number 0, made\n|  number 1, nothing to send\n|  number 2, profile out of range
-    do: correct the board line: M 32 to 256, S 64 to 65472 and O 0 to 65472 in steps of 64, type 1 to 255
+    do: correct the board line: M 32 to 256, page 64 or 128, S from one page and O from 0 to 65472 in steps of the page, type 1 to 255
 |  number 3, lent flash shorter than O + S\n    do: lend more flash, or correct S and O
 |  number 4, malformed state\n    do: begin with a fresh board
 |  number 5, reply buffer shorter than M\n    do: lend at least M bytes

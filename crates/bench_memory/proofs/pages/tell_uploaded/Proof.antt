@@ -5,10 +5,10 @@ use Rattle.bench_memory.proofs.pages.tell_uploaded.Statement.{statement
 use Rattle.bench_memory.proofs.pages.tell_uploaded.Tie as tie
 
 abbrev Inv-loop : tie.InvT-loop
-Inv-loop memory offset page₀ t6 t7 page = page ≤ 1023
+Inv-loop memory offset size page₀ t6 t7 page = page ≤ 1023
 
 abbrev μ-loop : tie.MeasureT-loop
-μ-loop memory offset page₀ t6 t7 page = 1023 - page
+μ-loop memory offset size page₀ t6 t7 page = 1023 - page
 
 slice-aggregate-say : tie.Need-slice-aggregate-say Inv-loop μ-loop
 slice-aggregate-say c = search needs
