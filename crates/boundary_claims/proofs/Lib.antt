@@ -4,3 +4,4 @@ pub mod Unreserved
 pub mod Meets
 pub mod Resets
 pub mod Tallies
+pub mod Pages

@@ -3,3 +3,4 @@ pub mod Calls
 pub mod Met
 pub mod Resets
 pub mod Tallies
+pub mod Pages
