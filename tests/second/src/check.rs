@@ -207,7 +207,7 @@ impl Pair {
         let ledger = &self.ledger;
         let n = ledger.accepted.len();
         demand(told == ledger.count, "the count told is not the ledger's")?;
-        let bound = (n / self.page()) as u64 + ledger.f;
+        let bound = self.bound();
         demand(told <= bound, "count over whole pages plus f")?;
         self.at_bound += u64::from(told == bound && told > 0);
         demand(told <= n as u64, "count over the bytes accepted")?;
@@ -226,6 +226,12 @@ impl Pair {
 
     fn page(&self) -> usize {
         self.profile.page as usize
+    }
+
+    /// Demand 3's bound on the erase count: the whole pages of the accepted bytes, and f.
+    fn bound(&self) -> u64 {
+        let whole = self.ledger.accepted.len() / self.page();
+        whole as u64 + self.ledger.f
     }
 
     /// Pages that differ from the earlier copy.
@@ -381,45 +387,45 @@ fn all_lists(pair: &Pair, calls: &[Call], depth: u32, done: &mut u64) -> Result<
 }
 
 /// The ledger's numbers after each call of lists worked by hand, one for each page:
-/// n, committed, count, f.
+/// n, committed, count, f, the bound on the count.
 pub fn ledger_by_hand() -> Result<u64, String> {
     let write = |at: u64, data: &[u8]| write_frame(Bus::I2c, 8, at, data);
     let finalize = || framed(Bus::I2c, 8, FINALIZE, &[]);
     let of_64 = [
-        (write(0, &[0x11; 70]), [70, 64, 1, 0]),
-        (finalize(), [70, 70, 2, 1]),
-        (finalize(), [70, 70, 2, 1]),
-        (write(70, &[0x22]), [71, 70, 2, 1]),
-        (finalize(), [71, 71, 3, 2]),
-        (write(5, &[0x33]), [71, 71, 3, 2]),
-        (write(0, &[0x11; 70]), [70, 64, 0, 0]),
-        (finalize(), [70, 70, 0, 1]),
-        (write(0, &[]), [0, 0, 0, 0]),
-        (finalize(), [0, 0, 0, 0]),
+        (write(0, &[0x11; 70]), [70, 64, 1, 0, 1]),
+        (finalize(), [70, 70, 2, 1, 2]),
+        (finalize(), [70, 70, 2, 1, 2]),
+        (write(70, &[0x22]), [71, 70, 2, 1, 2]),
+        (finalize(), [71, 71, 3, 2, 3]),
+        (write(5, &[0x33]), [71, 71, 3, 2, 3]),
+        (write(0, &[0x11; 70]), [70, 64, 0, 0, 1]),
+        (finalize(), [70, 70, 0, 1, 2]),
+        (write(0, &[]), [0, 0, 0, 0, 0]),
+        (finalize(), [0, 0, 0, 0, 0]),
     ];
     let of_128 = [
-        (write(0, &[0x11; 70]), [70, 0, 0, 0]),
-        (finalize(), [70, 70, 1, 1]),
-        (write(70, &[0x22; 57]), [127, 70, 1, 1]),
-        (write(127, &[0x22]), [128, 128, 2, 1]),
-        (finalize(), [128, 128, 2, 1]),
-        (write(128, &[0x33; 127]), [255, 128, 2, 1]),
-        (finalize(), [255, 255, 3, 2]),
-        (write(0, &[0x11; 70]), [70, 0, 0, 0]),
-        (write(70, &[0x22; 122]), [192, 128, 0, 0]),
-        (finalize(), [192, 192, 1, 1]),
+        (write(0, &[0x11; 70]), [70, 0, 0, 0, 0]),
+        (finalize(), [70, 70, 1, 1, 1]),
+        (write(70, &[0x22; 57]), [127, 70, 1, 1, 1]),
+        (write(127, &[0x22]), [128, 128, 2, 1, 2]),
+        (finalize(), [128, 128, 2, 1, 2]),
+        (write(128, &[0x33; 127]), [255, 128, 2, 1, 2]),
+        (finalize(), [255, 255, 3, 2, 3]),
+        (write(0, &[0x11; 70]), [70, 0, 0, 0, 0]),
+        (write(70, &[0x22; 122]), [192, 128, 0, 0, 1]),
+        (finalize(), [192, 192, 1, 1, 2]),
     ];
     by_hand(64, &of_64)?;
     by_hand(128, &of_128)?;
     Ok((of_64.len() + of_128.len()) as u64)
 }
 
-fn by_hand(page: u32, list: &[(Vec<u8>, [u64; 4])]) -> Result<(), String> {
+fn by_hand(page: u32, list: &[(Vec<u8>, [u64; 5])]) -> Result<(), String> {
     let mut pair = Pair::new(paged_profile(Bus::I2c, 256, page, 256, 0), vec![0xff; 256]);
     for (k, (frame, numbers)) in list.iter().enumerate() {
         pair.call(&frame_call(8, frame.clone()))?;
         let l = &pair.ledger;
-        let got = [l.accepted.len() as u64, l.committed as u64, l.count, l.f];
+        let got = [l.accepted.len() as u64, l.committed as u64, l.count, l.f, pair.bound()];
         demand(got == *numbers, &format!("ledger by hand, page {page}, call {k}: {got:?}, not {numbers:?}"))?;
     }
     Ok(())
