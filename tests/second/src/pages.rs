@@ -134,14 +134,14 @@ struct Counts {
     past_64: u64,
 }
 
-/// A board, its shadow, and the page under which it was last.
+/// A board whose page changes, and its shadow.
 struct Handed {
     p: Profile,
     s: State,
     flash: Vec<u8>,
     shadow: Shadow,
-    /// The page has changed since the last call that the board took, with bytes waiting.
-    fresh_page: bool,
+    /// The page of the last call that the board took.
+    made_under: u32,
 }
 
 impl Handed {
@@ -157,13 +157,15 @@ impl Handed {
         None
     }
 
+    /// Bytes wait that were taken under another page.
+    fn handed(&self) -> bool {
+        self.p.page != self.made_under && !self.shadow.waiting.is_empty()
+    }
+
     fn change_page(&mut self, page: u32, counts: &mut Counts) {
-        if page != self.p.page && !self.shadow.waiting.is_empty() {
-            self.fresh_page = true;
-        }
         self.p.page = page;
         let to = usize::from(page == 128);
-        if self.fresh_page && allowed(&self.p) {
+        if self.handed() && allowed(&self.p) {
             counts.malformed[to] += u64::from(self.refused() == Some(4));
             counts.taken[to] += u64::from(self.refused().is_none());
         }
@@ -181,7 +183,7 @@ impl Handed {
             let untouched = (&self.s, &self.flash) == (&given.0, &given.1) && out.iter().all(|&b| b == UNTOUCHED);
             return demand(untouched, "a refused call changed something");
         }
-        self.fresh_page = false;
+        self.made_under = self.p.page;
         let (start, tail) = if self.p.bus == Bus::I2c { (2, 1) } else { (3, 2) };
         demand(answer.number == 0 && out[start - 2] == OK, "not answered OK")?;
         demand(out.get(start..answer.len - tail) == Some(results), "other results")?;
@@ -203,10 +205,10 @@ impl Handed {
     fn write(&mut self, at: usize, data: &[u8], counts: &mut Counts) -> Result<(), String> {
         let refused = self.refused();
         if refused.is_none() {
-            let waited = self.shadow.waiting.len();
+            let (handed, waited) = (self.handed(), self.shadow.waiting.len());
             self.shadow.write(&self.p, at, data);
             let ended = at > 0 && self.shadow.waiting.len() < waited + data.len();
-            counts.written_on[usize::from(self.p.page == 128)] += u64::from(self.fresh_page && ended);
+            counts.written_on[usize::from(self.p.page == 128)] += u64::from(handed && ended);
         }
         let frame = write_frame(self.p.bus, 8, at as u64, data);
         self.receive(&frame, refused, &[], counts)
@@ -215,7 +217,7 @@ impl Handed {
     fn finalize(&mut self, counts: &mut Counts) -> Result<(), String> {
         let refused = self.refused();
         if refused.is_none() {
-            counts.finalized[usize::from(self.p.page == 128)] += u64::from(self.fresh_page);
+            counts.finalized[usize::from(self.p.page == 128)] += u64::from(self.handed());
             self.shadow.lay(self.p.o as usize);
         }
         let count = (self.shadow.count as u16).to_be_bytes();
@@ -245,7 +247,7 @@ impl Handed {
         demand(number == refused.unwrap_or(1), &format!("the reset's number is {number}"))?;
         if refused.is_none() {
             self.shadow = Shadow { flash: self.flash.clone(), next: 0, waiting: Vec::new(), count: 0 };
-            self.fresh_page = false;
+            self.made_under = self.p.page;
             return demand(self.s == State::fresh(), "not fresh after a reset");
         }
         demand(self.s == given, "a refused reset changed the state")
@@ -262,7 +264,7 @@ fn one_list(rng: &mut Rng, counts: &mut Counts) -> Result<(), String> {
     let flash = if rng.percent(30) { vec![0xff; first + size + past] } else { rng.bytes(first + size + past) };
     let image = if rng.percent(50) { flash[first..first + size].to_vec() } else { rng.bytes(size) };
     let shadow = Shadow { flash: flash.clone(), next: 0, waiting: Vec::new(), count: 0 };
-    let mut board = Handed { p, s: State::fresh(), flash, shadow, fresh_page: false };
+    let mut board = Handed { p, s: State::fresh(), flash, shadow, made_under: 64 };
     for step in 0..20 + rng.below(30) {
         if rng.percent(25) {
             let page = if rng.percent(85) { rng.of(&[64, 128]) } else { rng.of(&WRONG.map(u64::from)) };
