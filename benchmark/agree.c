@@ -3,7 +3,6 @@
 #include <stdlib.h>
 #include <string.h>
 
-#include "childbus.h"
 #include "jobs.h"
 
 static uint32_t get32(const uint8_t *b)
@@ -107,8 +106,8 @@ static bool job_agrees(const struct job *job)
             start != plain_start || memcmp(out, plain_out, sizeof boards.out[0]) != 0 ||
             !same_state(boards.state, &boards.plain_state) || !same_tally(boards.tally, &boards.plain_tally) ||
             memcmp(boards.flash[LIBRARY], boards.flash[PLAIN], FLASH) != 0) {
-            printf("%s, bus %u, frames of %u: the sides differ at call %zu (library %u, plain %u)\n",
-                   kind_name(job->kind), (unsigned)job->bus, (unsigned)job->frame, i, (unsigned)number,
+            printf("%s, bus %u, frames of %u, pages of %u: the sides differ at call %zu (library %u, plain %u)\n",
+                   kind_name(job->kind), (unsigned)job->bus, (unsigned)job->frame, (unsigned)job->page, i, (unsigned)number,
                    (unsigned)plain_number);
             return false;
         }
@@ -138,10 +137,11 @@ static bool one_in(uint32_t n)
     return below(n) == 0;
 }
 
-enum { SMALL_FLASH = 64 * 8 };
+enum { SMALL_FLASH = 512, PAST_STATE = 4 };
 
 struct trial {
-    uint8_t profile[36], state[344], before[344], flash[SMALL_FLASH], out[300], bytes[700], tally[12];
+    uint8_t profile[CHILDBUS_PROFILE_BYTES], state[CHILDBUS_STATE_BYTES + PAST_STATE], before[CHILDBUS_STATE_BYTES + PAST_STATE];
+    uint8_t flash[SMALL_FLASH], out[300], bytes[700], tally[12];
     size_t profile_len, state_len, flash_len, out_len, len, tally_len;
     struct plain_profile plain_profile;
     struct plain_state plain_state;
@@ -151,29 +151,52 @@ struct trial {
 
 static struct trial t;
 
+/* The page in both profiles. One that is out of range has no byte of its own: any byte above 1. */
+static void set_page(uint32_t page)
+{
+    t.plain_profile.page = page;
+    t.profile[CHILDBUS_PROFILE_PAGE] = (uint8_t)(page == PLAIN_PAGE_MIN   ? CHILDBUS_PAGE_64
+                                                 : page == PLAIN_PAGE_MAX ? CHILDBUS_PAGE_128
+                                                                          : 2 + below(254));
+}
+
+/* Another page for the board, mostly a right one. */
+static void change_page(void)
+{
+    static const uint32_t wrong[] = {0, 1, 32, 63, 65, 96, 127, 129, 192, 256};
+    if (one_in(6))
+        set_page(wrong[below(sizeof wrong / sizeof wrong[0])]);
+    else
+        set_page(t.plain_profile.page == PLAIN_PAGE_MIN ? PLAIN_PAGE_MAX : PLAIN_PAGE_MIN);
+}
+
 static void random_profile(void)
 {
     struct plain_profile *p = &t.plain_profile;
+    uint32_t page = one_in(2) ? PLAIN_PAGE_MIN : PLAIN_PAGE_MAX;
+    uint32_t pages = SMALL_FLASH / 2 / page; /* of the working flash, and before it */
     *p = (struct plain_profile){.bus = (uint8_t)below(2), .hardware = (uint8_t)(1 + below(3)),
                                 .compatible = (uint8_t)any(), .actual = (uint8_t)any(), .bootloader = (uint8_t)any(),
                                 .serial_len = (uint8_t)below(17), .longest = one_in(2) ? 32 + below(8) : 32 + below(225),
-                                .size = 64 * (1 + below(4)), .offset = 64 * below(4)};
+                                .size = page * (1 + below(pages)), .offset = page * below(pages)};
     for (int i = 0; i < PLAIN_SERIAL_MAX; i++)
         p->serial[i] = (uint8_t)any();
     if (one_in(40)) {
         static const uint32_t odd[] = {0, 1, 31, 63, 65, 257, 65471, 65473, 65536, 4294967295u};
         uint32_t value = odd[below(sizeof odd / sizeof odd[0])];
-        switch (below(6)) {
+        switch (below(7)) {
         case 0: p->bus = (uint8_t)(2 + below(254)); break;
         case 1: p->hardware = 0; break;
         case 2: p->serial_len = (uint8_t)(17 + below(239)); break;
         case 3: p->longest = value; break;
         case 4: p->size = value; break;
+        case 5: page = value; break;
         default: p->offset = value; break;
         }
     }
-    for (int i = 0; i < 36; i++)
+    for (size_t i = 0; i < sizeof t.profile; i++)
         t.profile[i] = (uint8_t)any();
+    set_page(page);
     t.profile[CHILDBUS_PROFILE_BUS] = p->bus;
     t.profile[CHILDBUS_PROFILE_HARDWARE] = p->hardware;
     t.profile[CHILDBUS_PROFILE_COMPATIBLE] = p->compatible;
@@ -197,11 +220,11 @@ static void random_state_of(void)
         s->address = (uint8_t)(one_in(4) ? any() : 8 + below(3));
         s->running = one_in(10);
         s->next = below(t.plain_profile.size % 1000 + 2);
-        s->w = below(s->next % 64 + (one_in(20) ? 2 : 1));
+        s->w = below(s->next % (t.plain_profile.page == PLAIN_PAGE_MAX ? PLAIN_PAGE_MAX : PLAIN_PAGE_MIN) + (one_in(20) ? 2 : 1));
         s->count = below(4);
         if (t.plain_profile.bus == PLAIN_I2C || one_in(20))
             s->reply_len = one_in(20) ? below(300) : below(6);
-        for (int i = 0; i < PLAIN_PAGE; i++)
+        for (size_t i = 0; i < sizeof s->waiting; i++)
             s->waiting[i] = one_in(8) ? (uint8_t)any() : 0xff;
         for (int i = 0; i < PLAIN_FRAME_MAX; i++)
             s->reply[i] = (uint8_t)any();
@@ -217,7 +240,7 @@ static void random_state_of(void)
     put32(t.state + CHILDBUS_STATE_WAITING_COUNT, s->w);
     put32(t.state + CHILDBUS_STATE_ERASE_COUNT, s->count);
     put32(t.state + CHILDBUS_STATE_REPLY_LENGTH, s->reply_len);
-    memcpy(t.state + CHILDBUS_STATE_WAITING, s->waiting, PLAIN_PAGE);
+    memcpy(t.state + CHILDBUS_STATE_WAITING, s->waiting, sizeof s->waiting);
     memcpy(t.state + CHILDBUS_STATE_REPLY, s->reply, PLAIN_FRAME_MAX);
     t.state_len = CHILDBUS_STATE_BYTES;
 }
@@ -298,7 +321,7 @@ static bool differ(const char *what, size_t turn)
     return false;
 }
 
-/* A list of calls to one board. */
+/* A list of calls to one board. Now and then its page changes: the state is handed over. */
 static bool board_turn(size_t turn)
 {
     random_profile();
@@ -308,6 +331,8 @@ static bool board_turn(size_t turn)
     for (size_t i = 0; i < SMALL_FLASH; i++)
         t.flash[i] = t.plain_flash[i] = one_in(8) ? (uint8_t)any() : 0xff;
     for (uint32_t call = 0; call < 12; call++) {
+        if (one_in(12))
+            change_page();
         uint32_t m = t.plain_profile.longest;
         t.out_len = one_in(40) ? below(m % 300 + 1) : sizeof t.out;
         memset(t.out, 0xa5, sizeof t.out);
@@ -365,7 +390,8 @@ static bool board_turn(size_t turn)
             memcmp(tally_before + CHILDBUS_TALLY_BYTES, t.tally + CHILDBUS_TALLY_BYTES, 2) != 0)
             return differ("tally", turn);
         if (number > 1 ? memcmp(t.before, t.state, sizeof t.state) != 0
-                       : !same_state(t.state, &t.plain_state) || memcmp(t.before + 340, t.state + 340, 4) != 0)
+                       : !same_state(t.state, &t.plain_state) ||
+                             memcmp(t.before + CHILDBUS_STATE_BYTES, t.state + CHILDBUS_STATE_BYTES, PAST_STATE) != 0)
             return differ("state", turn);
     }
     return true;

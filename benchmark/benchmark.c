@@ -23,8 +23,8 @@ __attribute__((noinline)) void measured(const struct job *job, enum side side)
 
 static void print_job(const struct job *job, enum side side)
 {
-    printf("%s %s %s %u %u", side_names[side], kind_name(job->kind), job->bus == PLAIN_I2C ? "i2c" : "rs485",
-           (unsigned)job->frame, (unsigned)job->amount);
+    printf("%s %s %s %u %u %u", side_names[side], kind_name(job->kind), job->bus == PLAIN_I2C ? "i2c" : "rs485",
+           (unsigned)job->frame, (unsigned)job->amount, (unsigned)job->page);
 }
 
 static void count(void)

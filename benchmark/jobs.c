@@ -5,30 +5,29 @@
 #include <stdlib.h>
 #include <string.h>
 
-#include "childbus.h"
+#define GROWTH(bus, frame)                                                                                                \
+    {UPLOAD_FIRST, bus, frame, 1024, 64}, {UPLOAD_FIRST, bus, frame, 2048, 64}, {UPLOAD_FIRST, bus, frame, 4096, 64},     \
+        {UPLOAD_FIRST, bus, frame, 8192, 64}, {UPLOAD_FIRST, bus, frame, 16384, 64}, {UPLOAD_FIRST, bus, frame, 32768, 64}
 
-#define GROWTH(bus, frame)                                                                                    \
-    {UPLOAD_FIRST, bus, frame, 1024}, {UPLOAD_FIRST, bus, frame, 2048}, {UPLOAD_FIRST, bus, frame, 4096},     \
-        {UPLOAD_FIRST, bus, frame, 8192}, {UPLOAD_FIRST, bus, frame, 16384}, {UPLOAD_FIRST, bus, frame, 32768}
-
-#define EACH_FRAME(bus, frame)                                                                                \
-    {UPLOAD_FIRST, bus, frame, FLASH}, {UPLOAD_REPEATED, bus, frame, FLASH}, {READ_BACK, bus, frame, FLASH},  \
-        {ENCODE_WRITE, bus, frame, FLASH}, {DECODE_FULL, bus, frame, 500}, {UPLOAD_TALLY, bus, frame, FLASH}
+#define EACH_FRAME(bus, frame)                                                                                            \
+    {UPLOAD_FIRST, bus, frame, FLASH, 64}, {UPLOAD_REPEATED, bus, frame, FLASH, 64}, {READ_BACK, bus, frame, FLASH, 64},  \
+        {ENCODE_WRITE, bus, frame, FLASH, 64}, {DECODE_FULL, bus, frame, 500, 64}, {UPLOAD_TALLY, bus, frame, FLASH, 64}, \
+        {UPLOAD_FIRST, bus, frame, FLASH_128, 128}, {UPLOAD_REPEATED, bus, frame, FLASH_128, 128}
 
 const struct job job_list[] = {
     EACH_FRAME(PLAIN_I2C, 32),
     EACH_FRAME(PLAIN_I2C, 256),
     EACH_FRAME(PLAIN_RS485, 32),
     EACH_FRAME(PLAIN_RS485, 256),
-    {READ_REPLY, PLAIN_I2C, 32, 2000},
-    {READ_REPLY, PLAIN_I2C, 256, 2000},
-    {ENCODE_SHORT, PLAIN_I2C, 256, 2000},
-    {ENCODE_SHORT, PLAIN_RS485, 256, 2000},
-    {DECODE_SHORT, PLAIN_I2C, 256, 2000},
-    {DECODE_SHORT, PLAIN_RS485, 256, 2000},
-    {TWO_READS, PLAIN_I2C, 256, 500},
-    {DROPPED, PLAIN_RS485, 32, 2000},
-    {DROPPED, PLAIN_RS485, 256, 2000},
+    {READ_REPLY, PLAIN_I2C, 32, 2000, 64},
+    {READ_REPLY, PLAIN_I2C, 256, 2000, 64},
+    {ENCODE_SHORT, PLAIN_I2C, 256, 2000, 64},
+    {ENCODE_SHORT, PLAIN_RS485, 256, 2000, 64},
+    {DECODE_SHORT, PLAIN_I2C, 256, 2000, 64},
+    {DECODE_SHORT, PLAIN_RS485, 256, 2000, 64},
+    {TWO_READS, PLAIN_I2C, 256, 500, 64},
+    {DROPPED, PLAIN_RS485, 32, 2000, 64},
+    {DROPPED, PLAIN_RS485, 256, 2000, 64},
     GROWTH(PLAIN_I2C, 32),
     GROWTH(PLAIN_I2C, 256),
     GROWTH(PLAIN_RS485, 32),
@@ -119,7 +118,8 @@ static void make_profiles(const struct job *job)
     static const uint8_t serial[4] = {0x51, 0x52, 0x53, 0x54};
     struct plain_profile *p = &boards.plain_profile;
     *p = (struct plain_profile){.bus = (uint8_t)job->bus, .hardware = 7, .compatible = 1, .actual = 2, .bootloader = 3,
-                                .serial_len = sizeof serial, .longest = job->frame, .size = FLASH, .offset = 0};
+                                .serial_len = sizeof serial, .page = job->page, .longest = job->frame,
+                                .size = job->page == 128 ? FLASH_128 : FLASH, .offset = 0};
     memcpy(p->serial, serial, sizeof serial);
 
     memset(boards.profile, 0, sizeof boards.profile);
@@ -129,6 +129,7 @@ static void make_profiles(const struct job *job)
     boards.profile[CHILDBUS_PROFILE_ACTUAL] = p->actual;
     boards.profile[CHILDBUS_PROFILE_BOOTLOADER] = p->bootloader;
     boards.profile[CHILDBUS_PROFILE_SERIAL_LENGTH] = p->serial_len;
+    boards.profile[CHILDBUS_PROFILE_PAGE] = p->page == 128 ? CHILDBUS_PAGE_128 : CHILDBUS_PAGE_64;
     put32(boards.profile + CHILDBUS_PROFILE_LONGEST, p->longest);
     put32(boards.profile + CHILDBUS_PROFILE_SIZE, p->size);
     put32(boards.profile + CHILDBUS_PROFILE_OFFSET, p->offset);

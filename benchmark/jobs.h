@@ -2,6 +2,7 @@
 #ifndef JOBS_H
 #define JOBS_H
 
+#include "childbus.h"
 #include "plain.h"
 
 enum side { LIBRARY, PLAIN, SIDES };
@@ -25,6 +26,7 @@ struct job {
     uint32_t bus;
     uint32_t frame;  /* M */
     uint32_t amount; /* bytes (uploads, read back, ENCODE_WRITE), else calls */
+    uint32_t page;   /* bytes of the board's pages */
 };
 
 /* One prepared call. The bytes are a frame, the data of a write, or a reply. */
@@ -35,17 +37,20 @@ struct input {
 
 /* A board of each side, and what the calls of one side leave. */
 struct boards {
-    uint8_t profile[36];
-    uint8_t state[340];
-    uint8_t tally[10];
+    uint8_t profile[CHILDBUS_PROFILE_BYTES];
+    uint8_t state[CHILDBUS_STATE_BYTES];
+    uint8_t tally[CHILDBUS_TALLY_BYTES];
     struct plain_profile plain_profile;
     struct plain_state plain_state;
     struct plain_tally plain_tally;
-    uint8_t flash[SIDES][65472];
-    uint8_t out[SIDES][256];
+    uint8_t flash[SIDES][CHILDBUS_FLASH_MAX];
+    uint8_t out[SIDES][CHILDBUS_FRAME_MAX];
 };
 
-enum { ADDRESS = 8, FLASH = 65472, DROPS = 4 };
+/* The largest S with pages of 64 bytes, and with pages of 128. */
+enum { FLASH = CHILDBUS_FLASH_MAX, FLASH_128 = 65408 };
+
+enum { ADDRESS = 8, DROPS = 4 };
 
 extern struct boards boards;
 extern struct input inputs[];

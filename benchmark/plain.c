@@ -117,13 +117,15 @@ void plain_fresh(struct plain_state *s)
 /* Numbers 2, 3, 4, 5 in this order; 0 if none. */
 static uint32_t refused(const struct plain_profile *p, const struct plain_state *s, size_t flash_len, size_t out_len)
 {
-    if (p->bus > PLAIN_RS485 || p->longest < PLAIN_FRAME_MIN || p->longest > PLAIN_FRAME_MAX || p->size % PLAIN_PAGE ||
-        p->size < PLAIN_PAGE || p->size > PLAIN_FLASH_MAX || p->offset % PLAIN_PAGE || p->offset > PLAIN_FLASH_MAX ||
+    if (p->page != PLAIN_PAGE_MIN && p->page != PLAIN_PAGE_MAX)
+        return 2;
+    if (p->bus > PLAIN_RS485 || p->longest < PLAIN_FRAME_MIN || p->longest > PLAIN_FRAME_MAX || p->size % p->page ||
+        p->size < PLAIN_FLASH_MIN || p->size > PLAIN_FLASH_MAX || p->offset % p->page || p->offset > PLAIN_FLASH_MAX ||
         p->hardware == 0 || p->serial_len > PLAIN_SERIAL_MAX)
         return 2;
     if (flash_len < (size_t)p->offset + p->size)
         return 3;
-    if (s->next > p->size || s->w > s->next % PLAIN_PAGE || s->count > s->next - s->w || s->reply_len > p->longest ||
+    if (s->next > p->size || s->w > s->next % p->page || s->count > s->next - s->w || s->reply_len > p->longest ||
         (p->bus == PLAIN_RS485 && s->reply_len))
         return 4;
     if (out_len < p->longest)
@@ -164,7 +166,7 @@ static uint8_t write_flash(const struct plain_profile *p, struct plain_state *s,
         s->count = 0;
     }
     while (left > 0) {
-        size_t room = PLAIN_PAGE - s->next % PLAIN_PAGE;
+        size_t room = p->page - s->next % p->page;
         size_t n = left < room ? left : room;
         memcpy(s->waiting + s->w, data, n);
         s->w += (uint32_t)n;

@@ -11,7 +11,8 @@
 
 enum plain_bus { PLAIN_I2C = 0, PLAIN_RS485 = 1 };
 
-enum { PLAIN_PAGE = 64, PLAIN_FRAME_MIN = 32, PLAIN_FRAME_MAX = 256, PLAIN_FLASH_MAX = 65472, PLAIN_SERIAL_MAX = 16 };
+enum { PLAIN_PAGE_MIN = 64, PLAIN_PAGE_MAX = 128, PLAIN_FRAME_MIN = 32, PLAIN_FRAME_MAX = 256 };
+enum { PLAIN_FLASH_MIN = 64, PLAIN_FLASH_MAX = 65472, PLAIN_SERIAL_MAX = 16 };
 
 struct plain_profile {
     uint8_t bus;
@@ -20,6 +21,7 @@ struct plain_profile {
     uint8_t actual;
     uint8_t bootloader;
     uint8_t serial_len;
+    uint32_t page;    /* bytes of a flash page: 64 or 128 */
     uint32_t longest; /* M */
     uint32_t size;    /* S */
     uint32_t offset;  /* O */
@@ -34,7 +36,7 @@ struct plain_state {
     uint32_t w;
     uint32_t count;
     uint32_t reply_len;
-    uint8_t waiting[PLAIN_PAGE];
+    uint8_t waiting[PLAIN_PAGE_MAX];
     uint8_t reply[PLAIN_FRAME_MAX];
 };
 

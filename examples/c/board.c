@@ -21,7 +21,7 @@ static void stop_if_refused(uint32_t number)
     }
 }
 
-void board_power_up(struct board *board, uint32_t bus)
+void board_power_up(struct board *board, uint32_t bus, uint32_t page)
 {
     static const uint8_t serial[] = {'L', 'A', 'M', 'P', '0', '1'};
     uint8_t *p = board->profile;
@@ -33,6 +33,7 @@ void board_power_up(struct board *board, uint32_t bus)
     p[CHILDBUS_PROFILE_ACTUAL] = 2;
     p[CHILDBUS_PROFILE_BOOTLOADER] = 3;
     p[CHILDBUS_PROFILE_SERIAL_LENGTH] = sizeof serial;
+    p[CHILDBUS_PROFILE_PAGE] = (uint8_t)page;
     put32(p + CHILDBUS_PROFILE_LONGEST, BOARD_LONGEST);
     put32(p + CHILDBUS_PROFILE_SIZE, BOARD_SIZE);
     put32(p + CHILDBUS_PROFILE_OFFSET, BOARD_OFFSET);
@@ -42,6 +43,11 @@ void board_power_up(struct board *board, uint32_t bus)
     memset(board->flash + BOARD_OFFSET, 0xff, BOARD_SIZE);
     memset(board->tally, 0, sizeof board->tally);
     stop_if_refused(childbus_fresh(board->state, sizeof board->state));
+}
+
+unsigned board_page(const struct board *board)
+{
+    return board->profile[CHILDBUS_PROFILE_PAGE] == CHILDBUS_PAGE_64 ? CHILDBUS_PAGE : CHILDBUS_PAGE_MAX;
 }
 
 size_t board_frame(struct board *board, uint32_t address, const uint8_t *frame, size_t len)

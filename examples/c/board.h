@@ -4,7 +4,7 @@
 
 #include <childbus.h>
 
-/* The bootloader has the first 1,024 bytes of flash, the application the 4,096 behind it. */
+/* The bootloader has the first 1,024 bytes of flash, the application the 4,096 behind it: whole pages, of 64 bytes and of 128. */
 enum { BOARD_OFFSET = 1024, BOARD_SIZE = 4096, BOARD_LONGEST = 64 };
 
 struct board {
@@ -16,8 +16,12 @@ struct board {
     uint32_t number;                     /* what the library answered to the last frame */
 };
 
-/* Power-up on a bus (CHILDBUS_I2C or CHILDBUS_RS485), with empty flash behind the bootloader. */
-void board_power_up(struct board *board, uint32_t bus);
+/* Power-up on a bus (CHILDBUS_I2C or CHILDBUS_RS485) with pages of a size (CHILDBUS_PAGE_64 or CHILDBUS_PAGE_128), with empty flash
+ * behind the bootloader. */
+void board_power_up(struct board *board, uint32_t bus, uint32_t page);
+
+/* The bytes of its pages. */
+unsigned board_page(const struct board *board);
 
 /* A frame has arrived: on RS485 at a silence (address: 0), on I2C at the stop of a write to address. Answers how many bytes
  * of board->reply are to be sent now; none on I2C, where the master reads. */

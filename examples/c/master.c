@@ -1,8 +1,9 @@
 /*
  * An example master over childbus.h, and the program: on each bus it finds the board, gives it an address, tries a reserved
  * one, uploads an image, finalizes, reads it back, compares, uploads once more, sends frames that get no reply, and starts the
- * application. Master and board share nothing but the bytes on the bus, which are `exchange` below; the board's numbers and its
- * tally are shown as a service screen would. Ends with status 0 if all went as it should.
+ * application. The board has pages of 64 bytes on I2C and of 128 on RS485; only the erase count shows it. Master and board share
+ * nothing but the bytes on the bus, which are `exchange` below; the board's numbers and its tally are shown as a service screen
+ * would. Ends with status 0 if all went as it should.
  */
 #include <stdbool.h>
 #include <stdio.h>
@@ -190,15 +191,15 @@ static void show_tally(const struct board *board)
            board_counter(board, CHILDBUS_TALLY_FOREIGN), board_counter(board, CHILDBUS_TALLY_ANSWERED));
 }
 
-static void run_master(struct board *board, uint32_t bus, const uint8_t *image)
+static void run_master(struct board *board, uint32_t bus, uint32_t page, const uint8_t *image)
 {
     struct master master = {.board = board, .bus = bus, .longest = CHILDBUS_FRAME_MIN};
     uint8_t request[CHILDBUS_FRAME_MAX];
     uint32_t major, minor;
     size_t len;
 
-    printf("%s\n", bus == CHILDBUS_I2C ? "I2C" : "RS485");
-    board_power_up(board, bus);
+    board_power_up(board, bus, page);
+    printf("%s, pages of %u bytes\n", bus == CHILDBUS_I2C ? "I2C" : "RS485", board_page(board));
 
     /* all boards to the start, then speak to the default range */
     if (childbus_general(bus, master.longest, 1, request, sizeof request, &len) != CHILDBUS_MADE ||
@@ -221,7 +222,7 @@ static void run_master(struct board *board, uint32_t bus, const uint8_t *image)
     r = ask(&master, CHILDBUS_CMD_SERIAL, ADDRESS, 0, 0, &len);
     printf("  serial %.*s\n", (int)len, (const char *)r);
 
-    if (upload(&master, image, IMAGE) != (IMAGE + 63) / 64)
+    if (upload(&master, image, IMAGE) != (IMAGE + board_page(board) - 1) / board_page(board))
         fail("another erase count was expected");
     read_back(&master, image, IMAGE);
     if (upload(&master, image, IMAGE) != 0)
@@ -267,8 +268,8 @@ int main(void)
         fail("no memory");
     for (size_t i = 0; i < IMAGE; i++)
         image[i] = (uint8_t)(i * 7 + i / 64);
-    run_master(board, CHILDBUS_I2C, image);
-    run_master(board, CHILDBUS_RS485, image);
+    run_master(board, CHILDBUS_I2C, CHILDBUS_PAGE_64, image);
+    run_master(board, CHILDBUS_RS485, CHILDBUS_PAGE_128, image);
     free(image);
     free(board);
     printf("done\n");

@@ -2,9 +2,9 @@
 """Single changes of meaning in the rules; each must be noticed.
 
 Changes to board, model, master and sums run on the stored fixed cases: the
-output must differ from fixed.expected. Changes to the ledger and to the check
-sums bit by bit, and some others again, run the check of board, ledger, master
-and check sums: it must fail. A change whose text is not found exactly once, or
+output must differ from fixed.expected. Changes to the ledger, to its bound and
+to the check sums bit by bit, and some others again, run the check of board,
+ledger, master, pages and check sums: it must fail. A change whose text is not found exactly once, or
 that does not build, is an error.
 """
 import os
@@ -17,7 +17,7 @@ from concurrent.futures import ThreadPoolExecutor
 
 HERE = os.path.dirname(os.path.abspath(__file__))
 RULES = ["model", "sums", "tally", "board", "master", "script", "ledger", "check", "rng", "total", "bits", "half_bytes", "running",
-         "silences"]
+         "silences", "pages"]
 SECONDS = 60
 WORKERS = 2
 
@@ -33,8 +33,8 @@ fn main() {
 }
 """
 CHECK_MAIN = """#![allow(dead_code)]
-mod bits; mod board; mod half_bytes; mod ledger; mod check; mod master; mod model; mod rng; mod running; mod silences; mod sums;
-mod tally; mod total;
+mod bits; mod board; mod half_bytes; mod ledger; mod check; mod master; mod model; mod pages; mod rng; mod running; mod silences;
+mod sums; mod tally; mod total;
 fn main() {
     if let Err(message) = check::all(3000, 3) {
         println!("{message}");
@@ -42,6 +42,9 @@ fn main() {
     }
 }
 """
+
+W_RULE = "if w > next % u64::from(p.page)"
+PROFILE_LINE = "        count_fields(f, 10)?;\n"
 
 # (file, name, old text, new text)
 MUTANTS = [
@@ -57,17 +60,17 @@ MUTANTS = [
     ("model", "M to 255", "MOST_M: u64 = 256", "MOST_M: u64 = 255"),
     ("model", "S to 65536", "MOST_S: u64 = 65_472", "MOST_S: u64 = 65_536"),
     ("model", "S to 65408", "MOST_S: u64 = 65_472", "MOST_S: u64 = 65_408"),
-    ("model", "S from 0", "s % PAGE != 0 || s < PAGE || s > MOST_S", "s % PAGE != 0 || s > MOST_S"),
-    ("model", "S any number", "s % PAGE != 0 || s < PAGE || s > MOST_S", "s < PAGE || s > MOST_S"),
-    ("model", "O any number", "o % PAGE != 0 || o > MOST_O", "o > MOST_O"),
+    ("model", "S from 0", "s % page != 0 || s < LEAST_S || s > MOST_S", "s % page != 0 || s > MOST_S"),
+    ("model", "S any number", "s % page != 0 || s < LEAST_S || s > MOST_S", "s < LEAST_S || s > MOST_S"),
+    ("model", "O any number", "o % page != 0 || o > MOST_O", "o > MOST_O"),
     ("model", "O to 65536", "MOST_O: u64 = 65_472", "MOST_O: u64 = 65_536"),
     ("model", "hardware type 0 taken", "sizes || p.hardware == 0 ||", "sizes ||"),
     ("model", "serial to 17", "MOST_SERIAL: usize = 16", "MOST_SERIAL: usize = 17"),
     ("model", "serial to 15", "MOST_SERIAL: usize = 16", "MOST_SERIAL: usize = 15"),
     ("model", "flash one longer than needed", "(flash_len as u64) < u64", "(flash_len as u64) <= u64"),
     ("model", "next at S malformed", "if next > u64::from(p.s)", "if next >= u64::from(p.s)"),
-    ("model", "w one higher", "if w > next % PAGE", "if w > next % PAGE + 1"),
-    ("model", "w only below a page", "if w > next % PAGE", "if w >= PAGE || w > next"),
+    ("model", "w one higher", W_RULE, "if w > next % u64::from(p.page) + 1"),
+    ("model", "w only below a page", W_RULE, "if w >= u64::from(p.page) || w > next"),
     ("model", "count up to next", "count > next - w", "count > next"),
     ("model", "count below next - w", "count > next - w", "count > 0 && count >= next - w"),
     ("model", "last reply of M malformed", "s.reply_len > p.m", "s.reply_len >= p.m"),
@@ -154,10 +157,10 @@ MUTANTS = [
      "    if address == 0 {\n        s.w = 0;\n    }\n    if !in_order || end > u64::from(p.s) {"),
     ("board", "empty write at 0 does nothing", "    if address == 0 {\n        s.next = 0;", "    if address == 0 && !data.is_empty() {\n        s.next = 0;"),
     ("board", "count kept at 0", "        s.w = 0;\n        s.count = 0;\n    }\n    for", "        s.w = 0;\n    }\n    for"),
-    ("board", "waiting bytes kept at 0", "        s.next = 0;\n        s.w = 0;", "        s.next = 0;\n        if u64::from(s.w) >= PAGE { s.w = 0; }"),
+    ("board", "waiting bytes kept at 0", "        s.next = 0;\n        s.w = 0;", "        s.next = 0;\n        if s.w >= p.page { s.w = 0; }"),
     ("board", "little-endian flash address", "u64::from(high) * 256 + u64::from(low)", "u64::from(low) * 256 + u64::from(high)"),
-    ("board", "commit one byte late", "    s.next += 1;\n    if u64::from(s.next) % PAGE == 0 {\n        commit(p, s, flash);\n    }",
-     "    s.next += 1;\n    if u64::from(s.next) % PAGE == 0 && s.w > 1 {\n        commit(p, s, flash);\n    }\n    s.w %= 64;"),
+    ("board", "commit one byte late", "    s.next += 1;\n    if s.next % p.page == 0 {\n        commit(p, s, flash);\n    }",
+     "    s.next += 1;\n    if s.next % p.page == 0 && s.w > 1 {\n        commit(p, s, flash);\n    }\n    s.w %= p.page;"),
     ("board", "count of unchanged commits", "        s.count += 1;\n    }\n    s.w = 0;", "    }\n    s.count += 1;\n    s.w = 0;"),
     ("board", "last page padded with 0xFF", "    let mut page = old.to_vec();", "    let mut page = old.to_vec();\n    page[within..].fill(0xff);"),
     ("board", "waiting bytes at the page's start", "page[within..within + s.w as usize]", "page[..s.w as usize]"),
@@ -579,10 +582,62 @@ SILENCES = [
     ("script", "C counts for its own line only", TALLIED, "        Ok(format!"),
     ("script", "fresh state clears the tally", "        self.state = State::fresh();\n        Ok(())",
      "        self.state = State::fresh();\n        self.tally = Tally::default();\n        Ok(())"),
-    ("script", "profile clears the tally", "        count_fields(f, 9)?;\n",
-     "        count_fields(f, 9)?;\n        self.tally = Tally::default();\n"),
+    ("script", "profile clears the tally", PROFILE_LINE, PROFILE_LINE + "        self.tally = Tally::default();\n"),
     ("script", "flash clears the tally", "        let len = number(\"length\", f[0], 131_072)?;\n",
      "        let len = number(\"length\", f[0], 131_072)?;\n        self.tally = Tally::default();\n"),
+]
+
+# the profile's page, and states handed over from one page to another
+PAGE_RULE = "!PAGES.contains(&page)"
+PAGE_FIRST = "    if page_out_of_range(p.page) {\n        return true;\n    }\n"
+PAGE_LIST = "pub const PAGES: [u32; 2] = [64, 128];"
+COMMIT_AT = "    if s.next % p.page == 0 {"
+LAID = "    page[within..within + s.w as usize].copy_from_slice(s.waiting_bytes());\n"
+PROFILE_THEN_FLASH = ("    if profile_out_of_range(p) {\n        return Some(2);\n    }\n"
+                      "    if flash_too_short(p, flash_len) {\n        return Some(3);\n    }\n")
+PAGES = [
+    # which pages, S and O
+    ("model", "page of 96 taken", PAGE_LIST, "pub const PAGES: [u32; 3] = [64, 96, 128];"),
+    ("model", "page of 256 taken", PAGE_LIST, "pub const PAGES: [u32; 3] = [64, 128, 256];"),
+    ("model", "page of 128 refused", PAGE_LIST, "pub const PAGES: [u32; 2] = [64, 64];"),
+    ("model", "page of 64 refused", PAGE_LIST, "pub const PAGES: [u32; 2] = [128, 128];"),
+    ("model", "multiples of 64 taken for pages", PAGE_RULE, "page == 0 || page % 64 != 0"),
+    ("model", "page in its low 8 bits", PAGE_RULE, "!PAGES.contains(&(page & 0xff))"),
+    ("model", "page in its low 16 bits", PAGE_FIRST, "    let p = &Profile { page: p.page & 0xffff, ..p.clone() };\n" + PAGE_FIRST),
+    ("model", "page after the flash", PROFILE_THEN_FLASH,
+     "    if !page_out_of_range(p.page) && profile_out_of_range(p) {\n        return Some(2);\n    }\n"
+     "    if flash_too_short(p, flash_len) {\n        return Some(3);\n    }\n"
+     "    if page_out_of_range(p.page) {\n        return Some(2);\n    }\n"),
+    ("model", "S a multiple of 64 only", "s % page != 0", "s % 64 != 0"),
+    ("model", "O a multiple of 64 only", "o % page != 0", "o % 64 != 0"),
+    ("model", "S of 64 with every page", "s % page != 0", "s % page != 0 && s != 64"),
+    ("model", "S of 65472 with every page", "s % page != 0", "s % page != 0 && s != MOST_S"),
+    ("model", "O of 65472 with every page", "o % page != 0", "o % page != 0 && o != MOST_O"),
+    # malformed states
+    ("model", "w by 64", W_RULE, "if w > next % 64"),
+    ("model", "w by 128", W_RULE, "if w > next % 128"),
+    ("model", "w to 63", W_RULE, "if w > (next % u64::from(p.page)).min(63)"),
+    ("model", "w to 126", W_RULE, "if w > (next % u64::from(p.page)).min(126)"),
+    ("board", "too many waiting bytes dropped, not 4", REFUSAL_TEST + "    match",
+     "    if p.page == 64 && s.w > 63 {\n        s.w = 0;\n    }\n" + REFUSAL_TEST + "    match"),
+    ("board", "fewer waiting bytes than in the page are 4", REFUSAL_TEST + "    match",
+     "    if p.page == 128 && s.w < s.next % p.page && s.w > 0 {\n        return Answer::only(4);\n    }\n" + REFUSAL_TEST + "    match"),
+    # commits
+    ("board", "commit at 64", COMMIT_AT, "    if s.next % 64 == 0 {"),
+    ("board", "commit at 128", COMMIT_AT, "    if s.next % 128 == 0 {"),
+    ("board", "commit by the number of waiting bytes", COMMIT_AT, "    if s.w == p.page {"),
+    ("board", "commit of 64 bytes only", LAID, LAID + "    page[64..].copy_from_slice(&old[64..]);\n"),
+    ("board", "change in the first 64 bytes only", "    if page != old {", "    if page[..64] != old[..64] {"),
+    ("board", "erases counted by 64 bytes", "        s.count += 1;\n    }\n    s.w = 0;", "        s.count += p.page / 64;\n    }\n    s.w = 0;"),
+    ("board", "waiting bytes laid at the page's end", LAID,
+     "    let within = page_size - s.w as usize;\n" + LAID),
+    ("board", "page of 128 padded with 0xFF", LAID,
+     LAID + "    if page_size == 128 {\n        page[within + s.w as usize..].fill(0xff);\n    }\n"),
+    ("board", "finalize leaves what a page of 64 can't hold", "    if s.w > 0 {\n", "    if s.w > 0 && s.w < 64 {\n"),
+    ("board", "start drops 64 waiting bytes", "    s.running = true;\n    s.w = 0;", "    s.running = true;\n    s.w = s.w.saturating_sub(64);"),
+    # the lines of case files
+    ("script", "another page makes the state fresh", PROFILE_LINE, PROFILE_LINE + "        self.state = State::fresh();\n"),
+    ("model", "64 waiting bytes shown", "(self.w as usize).min(MOST_PAGE)]", "(self.w as usize).min(64)]"),
 ]
 
 # the check sums bit by bit: tried with the check
@@ -605,7 +660,11 @@ LEDGER = [
     ("ledger", "count kept at a write at 0", "        self.count = 0;\n        self.f = 0;\n    }", "        self.f = 0;\n    }"),
     ("ledger", "f kept at a write at 0", "        self.f = 0;\n    }", "    }"),
     ("ledger", "committed kept", "        self.committed = 0;\n        self.count = 0;", "        self.count = 0;"),
-    ("ledger", "no commit at page ends", "self.accepted.len() % PAGE_BYTES == 0", "self.accepted.len() % (2 * PAGE_BYTES) == 0"),
+    ("ledger", "no commit at page ends", "checked_rem(p.page as usize)", "checked_rem(2 * p.page as usize)"),
+    ("ledger", "commits at 64", "checked_rem(p.page as usize)", "checked_rem(64)"),
+    ("ledger", "commits at 128", "checked_rem(p.page as usize)", "checked_rem(128)"),
+    ("check", "erase bound by 64", "self.ledger.accepted.len() / self.page()", "self.ledger.accepted.len() / 64"),
+    ("check", "erase bound by 128", "self.ledger.accepted.len() / self.page()", "self.ledger.accepted.len() / 128"),
     ("ledger", "every commit counted", "        if changed {", "        if changed || self.committed > 0 {"),
     ("ledger", "finalize commits nothing", "            self.f += 1;\n            self.commit(p);", "            self.f += 1;"),
     ("ledger", "f not counted", "            self.f += 1;\n", ""),
@@ -636,6 +695,9 @@ CHECKED_TOO = [
     "foreign on I2C", "counters wrap", "counters stop at 65534", "full counter stops the others", "refused counted as answered",
     "1 counted as answered", "reset clears the tally", "I2C drop counted as foreign", "I2C nothing counted",
     "refused commands not counted",
+    "page in its low 16 bits", "S a multiple of 64 only", "O a multiple of 64 only", "O of 65472 with every page",
+    "w by 64", "w by 128", "too many waiting bytes dropped, not 4", "fewer waiting bytes than in the page are 4",
+    "commit at 64", "commit by the number of waiting bytes", "change in the first 64 bytes only",
 ]
 
 
@@ -730,7 +792,7 @@ def unchanged_passes(folder, cases, expected):
 
 def try_all(folders, cases, expected):
     names = situations(cases)
-    rules = MUTANTS + RESERVED + HALF_BYTES + RUNNING + SILENCES
+    rules = MUTANTS + RESERVED + HALF_BYTES + RUNNING + SILENCES + PAGES
     again = [m for m in rules if m[1] in CHECKED_TOO]
     assert len(again) == len(CHECKED_TOO)
     mutants = [("answer", mutant) for mutant in rules]

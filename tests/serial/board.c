@@ -1,7 +1,7 @@
 /*
- * A board on a pseudo-terminal, over childbus.h: `board M`. It writes the terminal's name on standard output and serves until
- * standard input ends. Each frame goes to standard error as `received BYTES answered BYTES`, or `silent NUMBER` where nothing is
- * sent: 1, or 15 to 18, which say why. Its last line there is the tally.
+ * A board on a pseudo-terminal, over childbus.h: `board M PAGE`, PAGE 64 or 128. It writes the terminal's name on standard output
+ * and serves until standard input ends. Each frame goes to standard error as `received BYTES answered BYTES`, or `silent NUMBER`
+ * where nothing is sent: 1, or 15 to 18, which say why. Its last line there is the tally.
  */
 #define _XOPEN_SOURCE 700
 #include <childbus.h>
@@ -20,7 +20,8 @@ enum { SILENCE_MS = 100 };
 enum { SIZE = 4096, OFFSET = 512 };
 
 static uint8_t profile[CHILDBUS_PROFILE_BYTES] = {
-    CHILDBUS_RS485, 7, 1, 2, 3, 3, 0, 0,                 /* type 7, revisions 1 and 2, bootloader 3, serial of 3 bytes */
+    CHILDBUS_RS485, 7, 1, 2, 3, 3,                       /* type 7, revisions 1 and 2, bootloader 3, serial of 3 bytes */
+    0, 0,                                                /* page: as main is told */
     0, 0, 0, 0,                                          /* M: as main is told */
     SIZE & 0xff, SIZE >> 8, 0, 0,                        /* S */
     OFFSET & 0xff, OFFSET >> 8, 0, 0,                    /* O */
@@ -81,11 +82,13 @@ static void serve(int line, const uint8_t *frame, size_t len)
 
 int main(int argc, char **argv)
 {
-    unsigned long longest = argc == 2 ? strtoul(argv[1], NULL, 10) : 0;
-    if (longest < CHILDBUS_FRAME_MIN || longest > CHILDBUS_FRAME_MAX) {
-        fprintf(stderr, "usage: board M\n");
+    unsigned long longest = argc == 3 ? strtoul(argv[1], NULL, 10) : 0;
+    unsigned long page = argc == 3 ? strtoul(argv[2], NULL, 10) : 0;
+    if (longest < CHILDBUS_FRAME_MIN || longest > CHILDBUS_FRAME_MAX || (page != CHILDBUS_PAGE && page != CHILDBUS_PAGE_MAX)) {
+        fprintf(stderr, "usage: board M PAGE\n");
         return 2;
     }
+    profile[CHILDBUS_PROFILE_PAGE] = page == CHILDBUS_PAGE ? CHILDBUS_PAGE_64 : CHILDBUS_PAGE_128;
     profile[CHILDBUS_PROFILE_LONGEST] = (uint8_t)longest;
     profile[CHILDBUS_PROFILE_LONGEST + 1] = (uint8_t)(longest >> 8);
 

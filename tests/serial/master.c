@@ -3,7 +3,8 @@
  * and replies are taken by modbus_receive_confirmation, which tests it. libmodbus takes a status for a Modbus function; up to
  * status 4 the form of the reply is the same. (Status 5 is a longer reply in Modbus, so there the bytes are read as they come.)
  *
- *   master TTY whole_run    every command, an upload with read back, silence, general calls
+ *   master TTY whole_run    every command, an upload with read back, silence, general calls; pages of 64 bytes
+ *   master TTY pages_of_128 an upload with read back, and when its pages come into flash
  *   master TTY silences     frames that get silence, for each reason, from a board with M = 64
  *   master TTY written B..  finalizes and compares the first bytes of flash with B.. (hex)
  */
@@ -169,6 +170,30 @@ static void whole_run(void)
     expect("flash is kept", BYTES(FIRST, 0x08, 0, 0, 4), BYTES(FIRST, 0, 4, image[0], image[1], image[2], image[3]));
 }
 
+/* A board with pages of 128: half as many erases, and bytes wait until the 128th. */
+static void pages_of_128(void)
+{
+    enum { PAGE = 128 };
+    uint8_t image[IMAGE], request[4 + PAGE - 1] = {OWN, 0x06, 0, 0}, old[3 + PAGE] = {OWN, 0, PAGE}, new[3 + PAGE] = {OWN, 0, PAGE};
+    for (unsigned i = 0; i < IMAGE; i++)
+        image[i] = (uint8_t)(i * 3 + i / 128);
+    for (unsigned i = 0; i < PAGE; i++) {
+        old[3 + i] = image[i];
+        new[3 + i] = (uint8_t)~image[i];
+    }
+    memcpy(request + 4, new + 3, PAGE - 1);
+
+    expect("set address", BYTES(FIRST, 0x01, OWN, 7), BYTES(FIRST, 0, 0));
+    upload(image, (IMAGE + PAGE - 1) / PAGE);
+    read_back(image);
+    upload(image, 0);
+    expect("write, 127 bytes", request, sizeof request, BYTES(OWN, 0, 0));
+    expect("read: nothing is in flash", BYTES(OWN, 0x08, 0, 0, PAGE), old, sizeof old);
+    expect("write, the 128th byte", BYTES(OWN, 0x06, 0, PAGE - 1, new[3 + PAGE - 1]), BYTES(OWN, 0, 0));
+    expect("read: the page is in flash", BYTES(OWN, 0x08, 0, 0, PAGE), new, sizeof new);
+    expect("finalize, one page erased", BYTES(OWN, 0x07), BYTES(OWN, 0, 2, 0, 1));
+}
+
 /* tests/serial/run compares the board's numbers with these lines, in this order. */
 static void silences(void)
 {
@@ -220,9 +245,10 @@ static void written(char **bytes, int len)
 int main(int argc, char **argv)
 {
     bool whole = argc == 3 && strcmp(argv[2], "whole_run") == 0;
+    bool pages = argc == 3 && strcmp(argv[2], "pages_of_128") == 0;
     bool silent = argc == 3 && strcmp(argv[2], "silences") == 0;
-    if (!whole && !silent && !(argc > 3 && argc < 60 && strcmp(argv[2], "written") == 0)) {
-        fprintf(stderr, "usage: master TTY whole_run | master TTY silences | master TTY written BYTE ..\n");
+    if (!whole && !pages && !silent && !(argc > 3 && argc < 60 && strcmp(argv[2], "written") == 0)) {
+        fprintf(stderr, "usage: master TTY whole_run | pages_of_128 | silences | written BYTE ..\n");
         return 2;
     }
     bus = modbus_new_rtu(argv[1], 9600, 'N', 8, 1);
@@ -231,6 +257,8 @@ int main(int argc, char **argv)
     patience(10, 0);
     if (whole)
         whole_run();
+    else if (pages)
+        pages_of_128();
     else if (silent)
         silences();
     else

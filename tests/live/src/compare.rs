@@ -3,6 +3,7 @@
 use crate::items::*;
 use crate::layout::*;
 use crate::library::{self, Lent};
+use crate::pages::Called;
 use crate::silences;
 use crate::tally::{Kind, Tally};
 use rules::board;
@@ -43,6 +44,8 @@ struct Board {
     lent_flash: Lent,
     lent_tally: Lent,
     room: usize,
+    /// The page under which a call last left this state; none if it was given, or is fresh.
+    made_under: Option<u32>,
 }
 
 /// What the second program's board was before a call.
@@ -74,6 +77,7 @@ impl Pair {
             lent_tally: Lent::new(&tally_bytes(&counters)),
             counters: Some(counters),
             room: 256,
+            made_under: None,
         };
         Pair { board, has_profile: false, has_flash: false, tally: Tally::default() }
     }
@@ -93,6 +97,7 @@ impl Pair {
             Item::State(s) => {
                 self.board.lent_state = Lent::new(&state_bytes(s));
                 self.board.state = Some((**s).clone());
+                self.board.made_under = None;
             }
             Item::Room(n) => self.board.room = *n,
             Item::Tally(counters) => {
@@ -128,6 +133,7 @@ impl Pair {
         let given = vec![0xeb; STATE_BYTES + self.board.flash.len() % 3];
         self.board.lent_state = self.fresh(&given)?;
         self.board.state = Some(State::fresh());
+        self.board.made_under = None;
         Ok(())
     }
 
@@ -159,6 +165,7 @@ impl Pair {
         let before = self.board.before();
         let (number, reply) = self.board.call(call)?;
         self.board.count(&mut self.tally, &before, call, number, &reply);
+        self.board.made(call, number);
         if let (Some(p), Some(before), Some(after)) = (&self.board.profile, &before.state, &self.board.state) {
             if let BoardCall::Receive { address, frame, .. } = call {
                 let seen = Seen::Frame { address: (*address).min(255) as u8, frame };
@@ -435,6 +442,14 @@ impl Board {
             lent_flash: Lent::new(flash),
             lent_tally: Lent::new(tally),
             room: buffers.room.unwrap_or(self.room),
+            made_under: self.made_under.filter(|_| buffers.state.is_none()),
+        }
+    }
+
+    /// After a received frame that was answered 0 or 1 the state is this page's.
+    fn made(&mut self, call: &BoardCall, number: u32) {
+        if let (Some(p), BoardCall::Receive { .. }, 0 | 1) = (&self.profile, call, number) {
+            self.made_under = Some(p.page);
         }
     }
 
@@ -456,6 +471,10 @@ impl Board {
         let (Some(p), Some(s)) = (&self.profile, &before.state) else {
             return;
         };
+        if let Some(after) = &self.state {
+            let (page_byte, made_under) = (self.profile_bytes[PAGE_BYTE], self.made_under);
+            tally.pages.called(&Called { p, page_byte, made_under, before: s, after, call, number, reply });
+        }
         if let BoardCall::Receive { address, frame, counted } = call {
             tally.address_edges.received(p, s, *address, frame, number, reply);
             tally.half_bytes.received(p.bus, frame, number, reply);
@@ -547,7 +566,7 @@ impl Board {
         }
     }
 
-    /// The very bytes where the state may not change, else its meaning; nothing past its 340 bytes.
+    /// The very bytes where the state may not change, else its meaning; nothing past its bytes.
     fn state_fault(&self, given: &[u8], kept: bool) -> Option<String> {
         let now = self.lent_state.bytes();
         if kept {

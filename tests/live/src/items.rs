@@ -112,9 +112,10 @@ impl Item {
     pub fn text(&self) -> String {
         match self {
             Item::Profile(p) => format!(
-                "P {} {} {} {} {} {} {} {} {}",
+                "P {} {} {} {} {} {} {} {} {} {}",
                 p.bus as u8,
                 p.m,
+                p.page,
                 p.s,
                 p.o,
                 p.hardware,
@@ -245,9 +246,10 @@ fn parse_line(line: &str) -> Result<Option<Item>, String> {
 
 fn plain(letter: &str, f: &[&str]) -> Result<Item, String> {
     Ok(match (letter, f) {
-        ("P", [bus, m, s, o, hardware, compatible, actual, version, serial]) => Item::Profile(Profile {
+        ("P", [bus, m, page, s, o, hardware, compatible, actual, version, serial]) => Item::Profile(Profile {
             bus: if number(bus, 1)? == 0 { Bus::I2c } else { Bus::Rs485 },
             m: number(m, u32::MAX)?,
+            page: number(page, u32::MAX)?,
             s: number(s, u32::MAX)?,
             o: number(o, u32::MAX)?,
             hardware: number(hardware, 255)? as u8,
@@ -269,7 +271,7 @@ fn plain(letter: &str, f: &[&str]) -> Result<Item, String> {
                 w: number(w, u32::MAX)?,
                 count: number(count, u32::MAX)?,
                 reply_len: number(len, u32::MAX)?,
-                waiting: bytes(waiting, 64)?.try_into().map_err(|_| "waiting needs 64 bytes")?,
+                waiting: bytes(waiting, MOST_PAGE)?.try_into().map_err(|_| "waiting needs 128 bytes")?,
                 reply: bytes(reply, 256)?.try_into().map_err(|_| "reply needs 256 bytes")?,
             }))
         }

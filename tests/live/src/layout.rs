@@ -5,8 +5,12 @@ use rules::rng::Rng;
 use rules::tally::Tally as Counters;
 
 pub const PROFILE_BYTES: usize = 36;
-pub const STATE_BYTES: usize = 340;
+pub const STATE_BYTES: usize = 404;
 pub const TALLY_BYTES: usize = 10;
+/// Places in the profile and in the state.
+pub const PAGE_BYTE: usize = 6;
+const WAITING: std::ops::Range<usize> = 20..148;
+const REPLY: std::ops::Range<usize> = 148..STATE_BYTES;
 
 /// The profile in bytes. Ignored bytes, and up to three past the end, hold anything.
 pub fn profile_bytes(p: &Profile) -> Vec<u8> {
@@ -18,6 +22,7 @@ pub fn profile_bytes(p: &Profile) -> Vec<u8> {
     b[3] = p.actual;
     b[4] = p.version;
     b[5] = p.serial.len() as u8;
+    b[PAGE_BYTE] = page_byte(p.page);
     put(&mut b, 8, p.m);
     put(&mut b, 12, p.s);
     put(&mut b, 16, p.o);
@@ -25,6 +30,25 @@ pub fn profile_bytes(p: &Profile) -> Vec<u8> {
         *place = *byte;
     }
     b
+}
+
+/// The page's byte: 0 for 64, 1 for 128; for every other page its low byte, or 2 and 3 where that would be 0 and 1.
+fn page_byte(page: u32) -> u8 {
+    match (page, page as u8) {
+        (64, _) => 0,
+        (128, _) => 1,
+        (_, low @ 0..=1) => 2 + low,
+        (_, low) => low,
+    }
+}
+
+/// The page that the byte says. 256 and above stand for bytes that say none: they are out of range.
+fn page_of(byte: u8) -> u32 {
+    match byte {
+        0 => 64,
+        1 => 128,
+        _ => 256 + u32::from(byte),
+    }
 }
 
 /// The profile that the bytes say; none if they are too few or the bus is no bus (number 2).
@@ -42,6 +66,7 @@ pub fn profile_of(b: &[u8]) -> Option<Profile> {
     Some(Profile {
         bus,
         m: number(b, 8),
+        page: page_of(b[PAGE_BYTE]),
         s: number(b, 12),
         o: number(b, 16),
         hardware: b[1],
@@ -68,8 +93,8 @@ pub fn state_bytes(s: &State) -> Vec<u8> {
     put(&mut b, 8, s.w);
     put(&mut b, 12, s.count);
     put(&mut b, 16, s.reply_len);
-    b[20..84].copy_from_slice(&s.waiting);
-    b[84..STATE_BYTES].copy_from_slice(&s.reply);
+    b[WAITING].copy_from_slice(&s.waiting);
+    b[REPLY].copy_from_slice(&s.reply);
     b
 }
 
@@ -87,8 +112,8 @@ pub fn state_of(b: &[u8]) -> Option<State> {
     s.w = number(b, 8);
     s.count = number(b, 12);
     s.reply_len = number(b, 16);
-    s.waiting.copy_from_slice(&b[20..84]);
-    s.reply.copy_from_slice(&b[84..STATE_BYTES]);
+    s.waiting.copy_from_slice(&b[WAITING]);
+    s.reply.copy_from_slice(&b[REPLY]);
     Some(s)
 }
 

@@ -3,8 +3,8 @@
 
 use crate::cases::{self, most_data, most_results, random_own, random_set_address, reply, Sheet, BUSES};
 use crate::items::*;
-use crate::layout::{profile_bytes, put, state_bytes, tally_bytes, PROFILE_BYTES, STATE_BYTES, TALLY_BYTES};
-use rules::check::{framed, general_frame, some_new_address, write_frame};
+use crate::layout::{profile_bytes, put, state_bytes, tally_bytes, PAGE_BYTE, PROFILE_BYTES, STATE_BYTES, TALLY_BYTES};
+use rules::check::{framed, general_frame, paged_profile, some_new_address, write_frame};
 use rules::model::*;
 use rules::rng::Rng;
 use rules::silences::{any_tally, silent_frame};
@@ -16,6 +16,8 @@ pub fn list(seed: u64, k: u64) -> Vec<Item> {
     let text = match rng.below(400) {
         0 => upload(&mut rng, &[65_472, 65_472, 32_768]),
         1..=40 => upload(&mut rng, &[64, 128, 192, 512, 1024, 2048, 4096]),
+        41..=56 => size_edges(),
+        57..=76 => handed_over(&mut rng),
         _ => cases::random(rng.number(), 1).cases,
     };
     let items = parse(&text).expect("the generator writes good lines");
@@ -26,11 +28,12 @@ pub fn list(seed: u64, k: u64) -> Vec<Item> {
 fn upload(rng: &mut Rng, sizes: &[u64]) -> String {
     let bus = BUSES[rng.below(2) as usize];
     let m = rng.of(&[32, 33, 70, 72, 128, 200, 256, 256, 256]) as u32;
-    let s = rng.of(sizes) as u32;
-    let o = rng.of(&[0, 0, 64, 65_472]) as u32;
+    let page = rng.of(&PAGES.map(u64::from)) as u32;
+    let s = (rng.of(sizes) as u32 / page * page).max(page);
+    let o = rng.of(&[0, 0, 64, 128, 65_472]) as u32 / page * page;
     let m = if s > 10_000 { 256 } else { m };
     let mut sheet = Sheet { counting: Some(Rng::new(rng.number())), ..Sheet::default() };
-    sheet.board(bus, m, s, o);
+    sheet.paged_board(bus, m, page, s, o);
     let length = if rng.percent(60) { s as usize } else { rng.below(u64::from(s) + 1) as usize };
     let mut image = rng.bytes(length);
     let noise = rng.of(&[0, 0, 1, 5]);
@@ -39,12 +42,55 @@ fn upload(rng: &mut Rng, sizes: &[u64]) -> String {
             damage_one(rng, &mut image);
         }
         let most = most_data(bus, m) as u64;
-        let piece = if s > 10_000 { most } else { rng.of(&[most, most, most - 1, 20, 64.min(most)]) };
+        let piece = if s > 10_000 { most } else { rng.of(&[most, most, most - 1, 20, 64.min(most), 128.min(most)]) };
         upload_once(&mut sheet, rng, &image, piece as usize, noise);
         sheet.finalize();
     }
     if s <= 4096 {
         sheet.read_back(u64::from(s), most_results(bus, m).min(255) as u8);
+    }
+    sheet.cases
+}
+
+/// S and O at their ends and next to them with pages of 128, in a flash that is long enough.
+fn size_edges() -> String {
+    const SIZES: [u32; 9] = [0, 64, 128, 192, 65_344, 65_408, 65_472, 65_536, 4_294_967_168];
+    let mut sheet = Sheet::default();
+    sheet.flash(u64::from(MOST_FLASH), 3, 0);
+    for (bus, size) in BUSES.into_iter().flat_map(|bus| SIZES.map(|size| (bus, size))) {
+        for (s, o) in [(size, 0), (128, size)] {
+            sheet.profile(&paged_profile(bus, 64, 128, s, o));
+            sheet.fresh();
+            sheet.send(HARDWARE_INFO, &[]);
+        }
+    }
+    sheet.cases
+}
+
+/// Uploads under one page that go on under the other, malformed there or not, and then under their own again.
+fn handed_over(rng: &mut Rng) -> String {
+    let bus = BUSES[rng.below(2) as usize];
+    let (s, o) = (128 * (2 + rng.below(3)) as u32, 128 * rng.below(3) as u32);
+    let mut sheet = Sheet { counting: Some(Rng::new(rng.number())), ..Sheet::default() };
+    sheet.paged_board(bus, 256, 64, s, o);
+    for _ in 0..10 {
+        let (from, to) = if rng.percent(50) { (64, 128) } else { (128, 64) };
+        sheet.profile(&paged_profile(bus, 256, from, s, o));
+        let length = rng.of(&[6, 50, 63, 70, 100, 127, 130, 140, 190, 200]) as usize;
+        sheet.write(0, &rng.bytes(length));
+        sheet.profile(&paged_profile(bus, 256, to, s, o));
+        match rng.below(10) {
+            0..=2 => sheet.finalize(),
+            3..=5 => {
+                let (next, more) = (sheet.next(), rng.of(&[1, 14, 58, 64, 120]));
+                let more = more.min(u64::from(s) - next);
+                sheet.write(next, &rng.bytes(more as usize));
+            }
+            6..=8 => sheet.read_flash(0, 100),
+            _ => sheet.read(8),
+        }
+        sheet.profile(&paged_profile(bus, 256, from, s, o));
+        sheet.finalize();
     }
     sheet.cases
 }
@@ -123,7 +169,7 @@ fn with_more(rng: &mut Rng, items: Vec<Item>) -> Vec<Item> {
 }
 
 fn more(rng: &mut Rng, p: &Profile) -> Item {
-    match rng.below(34) {
+    match rng.below(38) {
         0..=4 => aside(rng, p),
         5 => Item::AsideEncode(any_encode(rng), rng.of(&[0, 1, 3, 4, 5, 7, 8, 31, 32, 255, 256, 257, 300]) as usize),
         6 => exact_encode(rng),
@@ -143,7 +189,9 @@ fn more(rng: &mut Rng, p: &Profile) -> Item {
             Item::AsideVersion { major, minor }
         }
         27..=32 => silent_aside(rng, p),
-        _ => Item::AsideFresh(rng.of(&[0, 1, 84, 339, 340, 341, 400]) as usize),
+        33 | 34 => page_aside(rng, p),
+        35 | 36 => waiting_aside(rng, p),
+        _ => Item::AsideFresh(rng.of(&[0, 1, 148, 340, 403, 404, 405, 500]) as usize),
     }
 }
 
@@ -233,10 +281,10 @@ fn aside(rng: &mut Rng, p: &Profile) -> Item {
         buffers.profile = Some(any_profile_bytes(rng, p));
     }
     if rng.percent(35) {
-        buffers.state = Some(any_state_bytes(rng, &state));
+        buffers.state = Some(any_state_bytes(rng, p, &state));
     }
     if rng.percent(12) {
-        buffers.flash = Some(rng.of(&[0, 1, need as u64 - 1, need as u64]) as usize);
+        buffers.flash = Some(rng.of(&[0, 1, need.saturating_sub(1) as u64, need as u64]) as usize);
     }
     if rng.percent(15) {
         let m = u64::from(p.m).min(MOST_ROOM as u64);
@@ -246,6 +294,58 @@ fn aside(rng: &mut Rng, p: &Profile) -> Item {
         buffers.tally = Some(any_tally_bytes(rng));
     }
     Item::Aside(call, buffers)
+}
+
+/// The page of a profile, 64 for one that is out of range.
+fn page_of(p: &Profile) -> u32 {
+    if PAGES.contains(&p.page) {
+        return p.page;
+    }
+    64
+}
+
+/// A board call under another page byte, half of them on a copy of the standing state: that one is handed over.
+fn page_aside(rng: &mut Rng, p: &Profile) -> Item {
+    let other = Profile { page: if page_of(p) == 64 { 128 } else { 64 }, ..p.clone() };
+    let mut profile = profile_bytes(&other);
+    if rng.percent(25) {
+        profile[PAGE_BYTE] = rng.of(&[2, 2, 3, 63, 64, 64, 65, 127, 128, 128, 129, 254, 255, 255]) as u8;
+    }
+    let mut buffers = Buffers { profile: Some(profile), ..Buffers::default() };
+    if rng.percent(50) {
+        let to = 8 + rng.byte() % 8;
+        let frame = match rng.below(6) {
+            0 => framed(p.bus, to, READ, &[0, 0, rng.byte() % 28]),
+            1 => general_frame(p.bus, 6),
+            2 => return Item::Aside(BoardCall::Read { address: u32::from(to) }, buffers),
+            _ => framed(p.bus, to, FINALIZE, &[]),
+        };
+        let address = if frame == general_frame(p.bus, 6) { 0 } else { u32::from(to) };
+        return Item::Aside(BoardCall::Receive { address, frame, counted: rng.percent(50) }, buffers);
+    }
+    let state = any_state(rng, p);
+    let call = any_board_call(rng, &other, &state);
+    buffers.state = Some(state_bytes(&state));
+    Item::Aside(call, buffers)
+}
+
+/// A board with pages of 128 and a state of its own, next to 64 or 128 bytes waiting.
+fn waiting_aside(rng: &mut Rng, p: &Profile) -> Item {
+    let mut profile = Profile { page: 128, s: (p.s / 128 * 128).max(128), o: p.o / 128 * 128, ..p.clone() };
+    profile.s = profile.s.min(65_408);
+    let in_page = rng.of(&[62, 63, 63, 64, 65, 126, 127, 127]) as u32;
+    let mut state = State { running: false, own: Own::DefaultRange, ..any_state(rng, &profile) };
+    state.next = 128 * rng.below(u64::from(profile.s / 128)) as u32 + in_page;
+    state.w = if rng.percent(20) { in_page + 1 } else { in_page };
+    state.count = 0;
+    let frame = match rng.below(8) {
+        0 => framed(p.bus, 8, FINALIZE, &[]),
+        1 => framed(p.bus, 8, START, &[]),
+        2 => write_frame(p.bus, 8, u64::from(state.next), &rng.bytes(2)),
+        _ => write_frame(p.bus, 8, u64::from(state.next), &rng.bytes(1)),
+    };
+    let buffers = Buffers { profile: Some(profile_bytes(&profile)), state: Some(state_bytes(&state)), ..Buffers::default() };
+    Item::Aside(BoardCall::Receive { address: 8, frame, counted: rng.percent(50) }, buffers)
 }
 
 /// Set address to a board in a state of its own.
@@ -262,12 +362,13 @@ fn any_state(rng: &mut Rng, p: &Profile) -> State {
     s.own = random_own(rng, p.bus);
     s.running = rng.percent(8);
     s.next = if rng.percent(20) { p.s } else { rng.below(u64::from(p.s) + 1) as u32 };
-    s.w = rng.below(u64::from(s.next % 64) + 1) as u32;
+    let in_page = s.next % page_of(p);
+    s.w = if rng.percent(20) { in_page } else { rng.below(u64::from(in_page) + 1) as u32 };
     s.count = if rng.percent(20) { s.next - s.w } else { rng.below(u64::from(s.next - s.w) + 1) as u32 };
     if p.bus == Bus::I2c && rng.percent(60) {
         s.reply_len = if rng.percent(20) { p.m } else { rng.below(u64::from(p.m) + 1) as u32 };
     }
-    s.waiting.copy_from_slice(&rng.bytes(64));
+    s.waiting.copy_from_slice(&rng.bytes(MOST_PAGE));
     s.reply.copy_from_slice(&rng.bytes(256));
     s
 }
@@ -288,12 +389,12 @@ fn any_board_call(rng: &mut Rng, p: &Profile, s: &State) -> BoardCall {
         return BoardCall::Read { address };
     }
     let most = most_data(p.bus, p.m).min(260) as u64;
-    let next = u64::from(s.next);
+    let (next, page) = (u64::from(s.next), u64::from(page_of(p)));
     let left = u64::from(p.s).saturating_sub(next);
     let frame = match rng.below(13) {
         0..=5 => {
             let at = rng.of(&[0, next, next, next, next, next + 1]);
-            let length = rng.of(&[0, 1, most, most, left, left + 1, 64 - next % 64]).min(most);
+            let length = rng.of(&[0, 1, most, most, left, left + 1, page - next % page]).min(most);
             write_frame(p.bus, own, at, &rng.bytes(length as usize))
         }
         6 | 7 => framed(p.bus, own, FINALIZE, &[]),
@@ -314,7 +415,7 @@ fn any_board_call(rng: &mut Rng, p: &Profile, s: &State) -> BoardCall {
 fn any_profile_bytes(rng: &mut Rng, p: &Profile) -> Vec<u8> {
     let mut b = profile_bytes(p);
     let number = any_number(rng);
-    match rng.below(10) {
+    match rng.below(11) {
         0 | 1 => b.truncate(rng.below(PROFILE_BYTES as u64) as usize),
         2 | 3 => b[0] = rng.of(&[0, 1, 2, 9, 128, 255]) as u8,
         4 => b[5] = rng.of(&[0, 15, 16, 17, 255]) as u8,
@@ -322,6 +423,7 @@ fn any_profile_bytes(rng: &mut Rng, p: &Profile) -> Vec<u8> {
         6 => put(&mut b, 12, number),
         7 => put(&mut b, 16, number),
         8 => b[1] = 0,
+        9 => b[PAGE_BYTE] = rng.of(&[0, 1, 2, 64, 128, 255]) as u8,
         _ => {
             let more = rng.below(60) as usize;
             b.extend(rng.bytes(more));
@@ -331,7 +433,7 @@ fn any_profile_bytes(rng: &mut Rng, p: &Profile) -> Vec<u8> {
 }
 
 /// The same for a state.
-fn any_state_bytes(rng: &mut Rng, s: &State) -> Vec<u8> {
+fn any_state_bytes(rng: &mut Rng, p: &Profile, s: &State) -> Vec<u8> {
     let mut b = state_bytes(s);
     let number = any_number(rng);
     match rng.below(10) {
@@ -346,7 +448,7 @@ fn any_state_bytes(rng: &mut Rng, s: &State) -> Vec<u8> {
         7 => {
             // one more than the field can hold
             let at = rng.of(&[4, 8, 12, 16]) as usize;
-            let more = [(4, s.next), (8, s.next % 64), (12, s.next - s.w), (16, 256)];
+            let more = [(4, s.next), (8, s.next % page_of(p)), (12, s.next - s.w), (16, 256)];
             let most = more.iter().find(|(place, _)| *place == at).map_or(0, |(_, most)| *most);
             put(&mut b, at, most + 1);
         }

@@ -10,6 +10,7 @@ mod items;
 mod layout;
 mod library;
 mod lists;
+mod pages;
 mod running;
 mod shrink;
 mod silences;

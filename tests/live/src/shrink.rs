@@ -299,6 +299,8 @@ fn profiles(p: &Profile) -> Vec<Item> {
     }
     with(&|p| p.o = 0);
     with(&|p| p.o = 64);
+    with(&|p| p.page = 0);
+    with(&|p| p.page = 64);
     with(&|p| p.m = 32);
     with(&|p| p.m = 64);
     with(&|p| p.serial.clear());
@@ -335,7 +337,7 @@ fn states(s: &State) -> Vec<Item> {
     with(&|s| s.w = 0);
     with(&|s| s.count = 0);
     with(&|s| s.reply_len = 0);
-    with(&|s| s.waiting = [0; 64]);
+    with(&|s| s.waiting = [0; MOST_PAGE]);
     with(&|s| s.reply = [0; 256]);
     for other in zeroed(&s.waiting) {
         with(&|s| s.waiting.copy_from_slice(&other));

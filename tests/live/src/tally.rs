@@ -2,6 +2,7 @@
 
 use crate::address_edges::AddressEdges;
 use crate::half_bytes::HalfBytes;
+use crate::pages::Pages;
 use crate::running::Running;
 use crate::silences::Silences;
 use rules::ledger::Event;
@@ -73,6 +74,7 @@ pub struct Tally {
     pub half_bytes: HalfBytes,
     pub running: Running,
     pub silences: Silences,
+    pub pages: Pages,
 }
 
 /// The place of a number in `NUMBERS`.
@@ -97,15 +99,15 @@ impl Tally {
         }
         match event {
             Event::Reset => self.resets += 1,
-            Event::Write { address, data } => self.write(before, after, *address == 0, data.len()),
+            Event::Write { address, data } => self.write(p, before, after, *address == 0, data.len()),
             Event::Finalize { told } => self.finalize(p, before, after, *told),
             Event::Other => self.other(before, after, number),
         }
     }
 
-    fn write(&mut self, before: &State, after: &State, at_zero: bool, len: usize) {
+    fn write(&mut self, p: &Profile, before: &State, after: &State, at_zero: bool, len: usize) {
         let (next, count) = if at_zero { (0, 0) } else { (before.next, before.count) };
-        let ends = u64::from(after.next / 64 - next / 64);
+        let ends = u64::from(after.next / p.page - next / p.page);
         let commits = u64::from(after.count - count);
         self.writes += 1;
         self.bytes += len as u64;
@@ -169,6 +171,7 @@ impl Tally {
         lines.push(self.half_bytes.line());
         lines.extend(self.running.lines());
         lines.extend(self.silences.lines());
+        lines.extend(self.pages.lines());
         lines.push(format!("calls with buffers of their own {}, longest flash {}", self.aside, self.most_flash));
         lines
     }
@@ -187,6 +190,7 @@ impl Tally {
         missing.extend(self.half_bytes.missing());
         missing.extend(self.running.missing());
         missing.extend(self.silences.missing());
+        missing.extend(self.pages.missing());
         missing
     }
 }

@@ -273,7 +273,7 @@ fn accept(p: &Profile, s: &mut State, flash: &mut [u8], byte: u8) {
     s.waiting[s.w as usize] = byte;
     s.w += 1;
     s.next += 1;
-    if u64::from(s.next) % PAGE == 0 {
+    if s.next % p.page == 0 {
         commit(p, s, flash);
     }
 }
@@ -281,9 +281,10 @@ fn accept(p: &Profile, s: &mut State, flash: &mut [u8], byte: u8) {
 /// Lay the waiting bytes over their page; write it only if that changes it.
 fn commit(p: &Profile, s: &mut State, flash: &mut [u8]) {
     let first = (s.next - s.w) as usize;
-    let within = first % PAGE as usize;
+    let page_size = p.page as usize;
+    let within = first % page_size;
     let base = p.o as usize + first - within;
-    let old = &mut flash[base..base + PAGE as usize];
+    let old = &mut flash[base..base + page_size];
     let mut page = old.to_vec();
     page[within..within + s.w as usize].copy_from_slice(s.waiting_bytes());
     if page != old {

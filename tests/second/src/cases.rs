@@ -1,7 +1,8 @@
 //! Case generation: the sheet that cases are written on, and random lists.
 
-use rules::check::{framed, general_frame, plain_profile, some_new_address, write_frame};
+use rules::check::{framed, general_frame, paged_profile, plain_profile, some_new_address, write_frame};
 use rules::model::*;
+use rules::pages::WRONG;
 use rules::rng::Rng;
 use rules::script::{hex, tally_text, Runner};
 use rules::silences::{any_tally, judged, silent_frame};
@@ -53,9 +54,10 @@ impl Sheet {
 
     pub fn profile(&mut self, p: &Profile) {
         self.line(&format!(
-            "P {} {} {} {} {} {} {} {} {}",
+            "P {} {} {} {} {} {} {} {} {} {}",
             bus_number(p.bus),
             p.m,
+            p.page,
             p.s,
             p.o,
             p.hardware,
@@ -115,10 +117,14 @@ impl Sheet {
         self.line(&format!("I {address}"));
     }
 
-    /// Profile, flash of 0xFF with 64 bytes after the working flash, fresh
-    /// state, room for M bytes.
+    /// Profile with pages of 64, flash of 0xFF with 64 bytes after the working
+    /// flash, fresh state, room for M bytes.
     pub fn board(&mut self, bus: Bus, m: u32, s: u32, o: u32) {
-        self.profile(&plain_profile(bus, m, s, o));
+        self.paged_board(bus, m, 64, s, o);
+    }
+
+    pub fn paged_board(&mut self, bus: Bus, m: u32, page: u32, s: u32, o: u32) {
+        self.profile(&paged_profile(bus, m, page, s, o));
         self.flash(u64::from(o) + u64::from(s) + 64, 0, 255);
         self.fresh();
         self.room(m as usize);
@@ -221,24 +227,76 @@ pub fn reply(bus: Bus, address: u8, status: u8, results: &[u8]) -> Vec<u8> {
     framed(bus, address, status, &args)
 }
 
-/// `lists` random lists of calls.
+/// `lists` random lists of calls, with both pages.
 pub fn random(seed: u64, lists: u64) -> Sheet {
+    random_with(seed, lists, &PAGES)
+}
+
+/// With these pages only; with more than one the page changes amid a list too.
+pub fn random_with(seed: u64, lists: u64, pages: &[u32]) -> Sheet {
     let mut sheet = Sheet::default();
     for list in 0..lists {
         let seed_of_list = seed.wrapping_mul(0x0100_0000_01b3) ^ (list << 20);
         sheet.note(&format!("random list {list} of seed {seed}"));
         sheet.counting = Some(Rng::new(!seed_of_list));
-        random_list(&mut sheet, &mut Rng::new(seed_of_list));
+        let mut paging = Paging { rng: Rng::new(seed_of_list.rotate_left(32)), pages: pages.to_vec() };
+        random_list(&mut sheet, &mut Rng::new(seed_of_list), &mut paging);
     }
     sheet
 }
 
-fn random_list(sheet: &mut Sheet, rng: &mut Rng) {
-    let p = random_profile(rng);
+/// Draws pages. Its numbers are its own, so that the rest of a seed's list depends on them only by the page.
+struct Paging {
+    rng: Rng,
+    pages: Vec<u32>,
+}
+
+impl Paging {
+    /// Another page, with S and O made multiples of it.
+    fn choose(&mut self, p: &mut Profile) {
+        let pages: Vec<u64> = self.pages.iter().map(|&page| u64::from(page)).collect();
+        p.page = self.rng.of(&pages) as u32;
+        p.s = (p.s / p.page * p.page).max(p.page);
+        p.o = p.o / p.page * p.page;
+    }
+
+    /// Now and then the profile gets another page: for good if S and O are multiples of it, else for one call, and for one call
+    /// a wrong one.
+    fn change(&mut self, sheet: &mut Sheet, p: &mut Profile, image: &[u8]) {
+        if self.pages.len() < 2 || !self.rng.percent(8) {
+            return;
+        }
+        let old = p.clone();
+        if self.rng.percent(30) {
+            p.page = self.rng.of(&WRONG.map(u64::from)) as u32;
+            sheet.profile(p);
+            let mut calls = Rng::new(self.rng.number());
+            random_board_call(sheet, &mut calls, &old, image);
+            *p = old;
+            return sheet.profile(p);
+        }
+        p.page = if p.page == 64 { 128 } else { 64 };
+        sheet.profile(p);
+        if p.s % p.page != 0 || p.o % p.page != 0 || self.rng.percent(20) {
+            let mut calls = Rng::new(self.rng.number());
+            random_board_call(sheet, &mut calls, &old, image);
+            *p = old;
+            return sheet.profile(p);
+        }
+        if self.rng.percent(40) {
+            sheet.finalize();
+        }
+    }
+}
+
+fn random_list(sheet: &mut Sheet, rng: &mut Rng, paging: &mut Paging) {
+    let mut p = random_profile(rng);
+    paging.choose(&mut p);
     let image = random_image(rng, p.s as usize);
     random_setup(sheet, rng, &p);
     let calls = if p.s > 10_000 { 12 } else { 15 + rng.below(60) };
     for _ in 0..calls {
+        paging.change(sheet, &mut p, &image);
         random_silence(sheet, &p);
         match rng.below(100) {
             0..=85 => random_board_call(sheet, rng, &p, &image),
@@ -321,22 +379,30 @@ fn random_state(rng: &mut Rng, p: &Profile) -> State {
     s.own = random_own(rng, p.bus);
     s.running = rng.percent(10);
     s.next = rng.below(u64::from(p.s) + 1) as u32;
-    s.w = rng.below(u64::from(s.next % 64) + 1) as u32;
+    s.w = rng.below(u64::from(s.next % p.page) + 1) as u32;
     s.count = rng.below(u64::from(s.next - s.w) + 1) as u32;
     if p.bus == Bus::I2c && rng.percent(50) {
         s.reply_len = rng.below(u64::from(p.m) + 1) as u32;
     }
-    s.waiting.copy_from_slice(&rng.bytes(64));
+    s.waiting.copy_from_slice(&waiting_buffer(rng));
     s.reply.copy_from_slice(&rng.bytes(256));
     match rng.below(25) {
         0 => s.next = p.s + 1,
-        1 => s.w = s.next % 64 + 1,
+        1 => s.w = s.next % p.page + 1,
         2 => s.count = s.next - s.w + 1,
         3 => s.reply_len = p.m + 1,
         4 => s.w = rng.number() as u32,
         _ => {}
     }
     s
+}
+
+/// Bytes of a whole waiting buffer. The second half has numbers of its own, so that a seed's lists stay as they were when the
+/// buffer had 64 bytes.
+fn waiting_buffer(rng: &mut Rng) -> Vec<u8> {
+    let first = rng.bytes(64);
+    let mut own = Rng::new(u64::from(first[0]) << 8 ^ u64::from(first[63]));
+    [first, own.bytes(MOST_PAGE - 64)].concat()
 }
 
 pub fn random_own(rng: &mut Rng, bus: Bus) -> Own {
@@ -475,7 +541,7 @@ fn random_write(sheet: &Sheet, rng: &mut Rng, p: &Profile, image: &[u8], own: u8
         1 => left,
         2 => left + 1,
         3 => rng.below(most + 1),
-        4 => (64 - at % 64).min(left),
+        4 => (u64::from(p.page) - at % u64::from(p.page)).min(left),
         _ => most.min(left),
     };
     let length = if rng.percent(98) { length.min(most) } else { length.min(most + 1) };

@@ -2,8 +2,8 @@
 //!
 //! After each call: the flash equals the ledger's copy, the state is well
 //! formed and (while not running) its upload is the ledger's. At each answered
-//! finalize: the count told is the ledger's; it is at most the whole pages plus
-//! f, at most n, and at least the number of pages that changed; the accepted
+//! finalize: the count told is the ledger's; it is at most the whole pages of
+//! the profile's size plus f, at most n, and at least the number of pages that changed; the accepted
 //! bytes stand in flash; every other byte is as just before; the same bytes
 //! accepted again since an earlier finalize give count 0.
 //!
@@ -21,6 +21,7 @@ use crate::half_bytes;
 use crate::ledger::{Event, Ledger, Seen};
 use crate::master::{self, Request};
 use crate::model::*;
+use crate::pages;
 use crate::rng::Rng;
 use crate::running;
 use crate::silences::{self, judged, Watched};
@@ -53,6 +54,8 @@ pub struct Pair {
     pub commits: u64,
     pub finalizes: u64,
     pub repeats: u64,
+    /// Finalizes whose count is the most that whole pages and f allow.
+    pub at_bound: u64,
     /// Set addresses answered OK, and with INVALID_ARGUMENTS for their address.
     pub moves: u64,
     pub reserved: u64,
@@ -78,6 +81,7 @@ impl Pair {
             commits: 0,
             finalizes: 0,
             repeats: 0,
+            at_bound: 0,
             moves: 0,
             reserved: 0,
         }
@@ -203,7 +207,9 @@ impl Pair {
         let ledger = &self.ledger;
         let n = ledger.accepted.len();
         demand(told == ledger.count, "the count told is not the ledger's")?;
-        demand(told <= (n / 64) as u64 + ledger.f, "count over whole pages plus f")?;
+        let bound = self.bound();
+        demand(told <= bound, "count over whole pages plus f")?;
+        self.at_bound += u64::from(told == bound && told > 0);
         demand(told <= n as u64, "count over the bytes accepted")?;
         demand(told >= self.changed_pages(), "count under the pages that changed")?;
         let first = self.profile.o as usize;
@@ -218,10 +224,20 @@ impl Pair {
         Ok(())
     }
 
+    fn page(&self) -> usize {
+        self.profile.page as usize
+    }
+
+    /// Demand 3's bound on the erase count: the whole pages of the accepted bytes, and f.
+    fn bound(&self) -> u64 {
+        let whole = self.ledger.accepted.len() / self.page();
+        whole as u64 + self.ledger.f
+    }
+
     /// Pages that differ from the earlier copy.
     fn changed_pages(&self) -> u64 {
-        let now = self.flash.chunks(64);
-        let earlier = self.ledger.earlier.chunks(64);
+        let now = self.flash.chunks(self.page());
+        let earlier = self.ledger.earlier.chunks(self.page());
         now.zip(earlier).filter(|(a, b)| a != b).count() as u64
     }
 
@@ -303,10 +319,16 @@ pub fn general_frame(bus: Bus, code: u8) -> Vec<u8> {
     }
 }
 
+/// Pages of 64 bytes.
 pub fn plain_profile(bus: Bus, m: u32, s: u32, o: u32) -> Profile {
+    paged_profile(bus, m, 64, s, o)
+}
+
+pub fn paged_profile(bus: Bus, m: u32, page: u32, s: u32, o: u32) -> Profile {
     Profile {
         bus,
         m,
+        page,
         s,
         o,
         hardware: 7,
@@ -321,8 +343,10 @@ fn frame_call(address: u8, frame: Vec<u8>) -> Call {
     Call::Frame { address, frame, room: 256 }
 }
 
-/// The calls of the exhaustive part.
-fn chosen(bus: Bus) -> Vec<Call> {
+/// The calls of the exhaustive part, where S is two pages.
+fn chosen(bus: Bus, page: u32) -> Vec<Call> {
+    let size = page as usize;
+    let (one, two) = (u64::from(page), 2 * u64::from(page));
     let write = |at: u64, data: &[u8]| frame_call(8, write_frame(bus, 8, at, data));
     let plain = |code: u8| frame_call(8, framed(bus, 8, code, &[]));
     let mut short = write(0, &[0x33; 3]);
@@ -330,12 +354,12 @@ fn chosen(bus: Bus) -> Vec<Call> {
         *room = 255;
     }
     vec![
-        write(0, &[0x11; 70]),
-        write(70, &[0x22]),
+        write(0, &vec![0x11; size + 6]),
+        write(one + 6, &[0x22]),
         write(0, &[]),
-        write(0, &[0xff; 64]),
-        write(64, &[0x11; 64]),
-        write(128, &[0x44]),
+        write(0, &vec![0xff; size]),
+        write(one, &vec![0x11; size]),
+        write(two, &[0x44]),
         plain(FINALIZE),
         plain(START),
         frame_call(0, general_frame(bus, 6)),
@@ -362,40 +386,58 @@ fn all_lists(pair: &Pair, calls: &[Call], depth: u32, done: &mut u64) -> Result<
     Ok(())
 }
 
-/// The ledger's numbers after each call of a list worked by hand:
-/// n, committed, count, f.
+/// The ledger's numbers after each call of lists worked by hand, one for each page:
+/// n, committed, count, f, the bound on the count.
 pub fn ledger_by_hand() -> Result<u64, String> {
-    let bus = Bus::I2c;
-    let write = |at: u64, data: &[u8]| write_frame(bus, 8, at, data);
-    let finalize = || framed(bus, 8, FINALIZE, &[]);
-    let list = [
-        (write(0, &[0x11; 70]), [70, 64, 1, 0]),
-        (finalize(), [70, 70, 2, 1]),
-        (finalize(), [70, 70, 2, 1]),
-        (write(70, &[0x22]), [71, 70, 2, 1]),
-        (finalize(), [71, 71, 3, 2]),
-        (write(5, &[0x33]), [71, 71, 3, 2]),
-        (write(0, &[0x11; 70]), [70, 64, 0, 0]),
-        (finalize(), [70, 70, 0, 1]),
-        (write(0, &[]), [0, 0, 0, 0]),
-        (finalize(), [0, 0, 0, 0]),
+    let write = |at: u64, data: &[u8]| write_frame(Bus::I2c, 8, at, data);
+    let finalize = || framed(Bus::I2c, 8, FINALIZE, &[]);
+    let of_64 = [
+        (write(0, &[0x11; 70]), [70, 64, 1, 0, 1]),
+        (finalize(), [70, 70, 2, 1, 2]),
+        (finalize(), [70, 70, 2, 1, 2]),
+        (write(70, &[0x22]), [71, 70, 2, 1, 2]),
+        (finalize(), [71, 71, 3, 2, 3]),
+        (write(5, &[0x33]), [71, 71, 3, 2, 3]),
+        (write(0, &[0x11; 70]), [70, 64, 0, 0, 1]),
+        (finalize(), [70, 70, 0, 1, 2]),
+        (write(0, &[]), [0, 0, 0, 0, 0]),
+        (finalize(), [0, 0, 0, 0, 0]),
     ];
-    let mut pair = Pair::new(plain_profile(bus, 256, 128, 0), vec![0xff; 128]);
+    let of_128 = [
+        (write(0, &[0x11; 70]), [70, 0, 0, 0, 0]),
+        (finalize(), [70, 70, 1, 1, 1]),
+        (write(70, &[0x22; 57]), [127, 70, 1, 1, 1]),
+        (write(127, &[0x22]), [128, 128, 2, 1, 2]),
+        (finalize(), [128, 128, 2, 1, 2]),
+        (write(128, &[0x33; 127]), [255, 128, 2, 1, 2]),
+        (finalize(), [255, 255, 3, 2, 3]),
+        (write(0, &[0x11; 70]), [70, 0, 0, 0, 0]),
+        (write(70, &[0x22; 122]), [192, 128, 0, 0, 1]),
+        (finalize(), [192, 192, 1, 1, 2]),
+    ];
+    by_hand(64, &of_64)?;
+    by_hand(128, &of_128)?;
+    Ok((of_64.len() + of_128.len()) as u64)
+}
+
+fn by_hand(page: u32, list: &[(Vec<u8>, [u64; 5])]) -> Result<(), String> {
+    let mut pair = Pair::new(paged_profile(Bus::I2c, 256, page, 256, 0), vec![0xff; 256]);
     for (k, (frame, numbers)) in list.iter().enumerate() {
         pair.call(&frame_call(8, frame.clone()))?;
         let l = &pair.ledger;
-        let got = [l.accepted.len() as u64, l.committed as u64, l.count, l.f];
-        demand(got == *numbers, &format!("ledger by hand, call {k}: {got:?}, not {numbers:?}"))?;
+        let got = [l.accepted.len() as u64, l.committed as u64, l.count, l.f, pair.bound()];
+        demand(got == *numbers, &format!("ledger by hand, page {page}, call {k}: {got:?}, not {numbers:?}"))?;
     }
-    Ok(list.len() as u64)
+    Ok(())
 }
 
+/// On both buses and with both pages.
 pub fn exhaustive(depth: u32) -> Result<u64, String> {
     let mut done = 0;
-    for bus in [Bus::I2c, Bus::Rs485] {
-        let profile = plain_profile(bus, 256, 128, 64);
-        let pair = Pair::new(profile, vec![0xff; 256]);
-        all_lists(&pair, &chosen(bus), depth, &mut done)?;
+    for (bus, page) in [Bus::I2c, Bus::Rs485].into_iter().flat_map(|bus| PAGES.map(|page| (bus, page))) {
+        let profile = paged_profile(bus, 256, page, 2 * page, page);
+        let pair = Pair::new(profile, vec![0xff; 4 * page as usize]);
+        all_lists(&pair, &chosen(bus, page), depth, &mut done)?;
     }
     Ok(done)
 }
@@ -403,9 +445,10 @@ pub fn exhaustive(depth: u32) -> Result<u64, String> {
 fn random_profile(rng: &mut Rng) -> Profile {
     let bus = if rng.percent(50) { Bus::I2c } else { Bus::Rs485 };
     let m = rng.of(&[32, 33, 40, 64, 70, 100, 255, 256, 256]) as u32;
-    let s = rng.of(&[64, 128, 192, 256, 320, 640]) as u32;
-    let o = rng.of(&[0, 64, 128]) as u32;
-    plain_profile(bus, m, s, o)
+    let page = rng.of(&PAGES.map(u64::from)) as u32;
+    let s = page * rng.of(&[1, 2, 3, 4, 5, 10]) as u32;
+    let o = page * rng.below(3) as u32;
+    paged_profile(bus, m, page, s, o)
 }
 
 /// Mostly bytes of one image, so that uploads repeat.
@@ -493,12 +536,17 @@ fn frame_call_with(address: u8, frame: Vec<u8>, room: usize) -> Call {
     Call::Frame { address, frame, room }
 }
 
-/// Random lists; gives calls, commits, finalizes, repeated uploads, moves and refused reserved addresses.
-pub fn random(seed: u64, lists: u64) -> Result<[u64; 6], String> {
-    let mut sums = [0; 6];
+/// What random lists came to under one page: calls, commits, finalizes, finalizes at their bound, repeated uploads, moves and
+/// refused reserved addresses.
+type Sums = [u64; 7];
+
+/// Random lists; what they came to under each page.
+pub fn random(seed: u64, lists: u64) -> Result<[Sums; 2], String> {
+    let mut all = [[0; 7]; 2];
     for list in 0..lists {
         let mut rng = Rng::new(seed.wrapping_mul(0x1_0000_0001).wrapping_add(list));
         let profile = random_profile(&mut rng);
+        let sums = &mut all[usize::from(profile.page == 128)];
         let extra = rng.of(&[0, 1, 64]);
         let len = (u64::from(profile.o) + u64::from(profile.s) + extra) as usize;
         let flash = if rng.percent(50) { vec![0xff; len] } else { rng.bytes(len) };
@@ -511,13 +559,13 @@ pub fn random(seed: u64, lists: u64) -> Result<[u64; 6], String> {
             pair.call(&call).map_err(|e| format!("{e}; list {list}, call {step}: {call:?}"))?;
             sums[0] += 1;
         }
-        sums[1] += pair.commits;
-        sums[2] += pair.finalizes;
-        sums[3] += pair.repeats;
-        sums[4] += pair.moves;
-        sums[5] += pair.reserved;
+        let counts =
+            [pair.commits, pair.finalizes, pair.at_bound, pair.repeats, pair.moves, pair.reserved];
+        for (sum, count) in sums[1..].iter_mut().zip(counts) {
+            *sum += count;
+        }
     }
-    Ok(sums)
+    Ok(all)
 }
 
 /// Master against board: each encoded request is answered, and the answer decodes.
@@ -604,13 +652,16 @@ pub fn all(lists: u64, depth: u32) -> Result<Vec<String>, String> {
     report.push(running::compare(4, lists)?);
     report.push(silences::compare(6, lists / 2)?);
     report.push(format!("all lists of up to {depth} calls: {} calls", exhaustive(depth)?));
-    let [calls, commits, finalizes, repeats, moves, reserved] = random(1, lists)?;
-    report.push(format!(
-        "{lists} random lists: {calls} calls, {commits} calls with commits, \
-         {finalizes} answered finalizes, {repeats} repeated uploads, \
-         {moves} addresses set, {reserved} refused as reserved"
-    ));
-    demand(lists < 100 || (moves > 0 && reserved > 0), "set address was never taken or never refused")?;
+    report.push(pages::compare(7, lists / 4)?);
+    for (page, sums) in PAGES.iter().zip(random(1, lists)?) {
+        let [calls, commits, finalizes, at_bound, repeats, moves, reserved] = sums;
+        report.push(format!(
+            "random lists with pages of {page}: {calls} calls, {commits} calls with commits, \
+             {finalizes} answered finalizes, {at_bound} of them at their bound, {repeats} repeated uploads, \
+             {moves} addresses set, {reserved} refused as reserved"
+        ));
+        demand(lists < 200 || sums.iter().all(|&n| n > 0), &format!("something never happened with pages of {page}"))?;
+    }
     Ok(report)
 }
 

@@ -35,8 +35,6 @@ pub struct Ledger {
     pub f: u64,
 }
 
-const PAGE_BYTES: usize = 64;
-
 impl Ledger {
     pub fn new(flash: &[u8]) -> Ledger {
         Ledger {
@@ -75,7 +73,8 @@ impl Ledger {
         }
         for &byte in data {
             self.accepted.push(byte);
-            if self.accepted.len() % PAGE_BYTES == 0 {
+            // a page of 0 bytes, which no board answers under, never ends
+            if self.accepted.len().checked_rem(p.page as usize) == Some(0) {
                 self.commit(p);
             }
         }

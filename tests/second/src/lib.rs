@@ -8,8 +8,9 @@
 //! answers them; `check` compares board and ledger over lists of calls;
 //! `half_bytes` compares `sums` with `bits`; `running` sends the reset of a
 //! running application to boards; `silences` judges once more why a frame got
-//! silence, and what the tally came to; `total` gives every function any input;
-//! `rng` is the generator of random numbers.
+//! silence, and what the tally came to; `pages` judges once more what a page
+//! allows, and hands states over from one page to another; `total` gives every
+//! function any input; `rng` is the generator of random numbers.
 
 pub mod bits;
 pub mod board;
@@ -18,6 +19,7 @@ pub mod check;
 pub mod half_bytes;
 pub mod master;
 pub mod model;
+pub mod pages;
 pub mod rng;
 pub mod running;
 pub mod script;

@@ -1,8 +1,12 @@
 //! Profile, state, the argument table, reserved addresses and the refusals that board calls test.
 
-pub const PAGE: u64 = 64;
+/// The page sizes that a profile may have.
+pub const PAGES: [u32; 2] = [64, 128];
+/// Bytes of the largest page: so many the waiting buffer has.
+pub const MOST_PAGE: usize = 128;
 pub const LEAST_M: u64 = 32;
 pub const MOST_M: u64 = 256;
+pub const LEAST_S: u64 = 64;
 pub const MOST_S: u64 = 65_472;
 pub const MOST_O: u64 = 65_472;
 pub const MOST_SERIAL: usize = 16;
@@ -35,6 +39,8 @@ pub struct Profile {
     pub bus: Bus,
     /// M, the longest frame.
     pub m: u32,
+    /// The size of a flash page.
+    pub page: u32,
     /// S, the size of the working flash.
     pub s: u32,
     /// O, the working flash's offset in the lent flash.
@@ -60,7 +66,7 @@ pub struct State {
     pub w: u32,
     pub count: u32,
     pub reply_len: u32,
-    pub waiting: [u8; 64],
+    pub waiting: [u8; MOST_PAGE],
     pub reply: [u8; 256],
 }
 
@@ -73,14 +79,14 @@ impl State {
             w: 0,
             count: 0,
             reply_len: 0,
-            waiting: [0; 64],
+            waiting: [0; MOST_PAGE],
             reply: [0; 256],
         }
     }
 
     /// The waiting bytes, at most the whole buffer.
     pub fn waiting_bytes(&self) -> &[u8] {
-        &self.waiting[..(self.w as usize).min(64)]
+        &self.waiting[..(self.w as usize).min(MOST_PAGE)]
     }
 
     /// The last reply, at most the whole buffer.
@@ -150,18 +156,26 @@ pub fn m_out_of_range(m: u32) -> bool {
     m < LEAST_M || m > MOST_M
 }
 
-fn s_out_of_range(s: u32) -> bool {
-    let s = u64::from(s);
-    s % PAGE != 0 || s < PAGE || s > MOST_S
+fn page_out_of_range(page: u32) -> bool {
+    !PAGES.contains(&page)
 }
 
-fn o_out_of_range(o: u32) -> bool {
-    let o = u64::from(o);
-    o % PAGE != 0 || o > MOST_O
+fn s_out_of_range(page: u32, s: u32) -> bool {
+    let (page, s) = (u64::from(page), u64::from(s));
+    s % page != 0 || s < LEAST_S || s > MOST_S
 }
 
+fn o_out_of_range(page: u32, o: u32) -> bool {
+    let (page, o) = (u64::from(page), u64::from(o));
+    o % page != 0 || o > MOST_O
+}
+
+/// The page first: S and O are measured by it.
 pub fn profile_out_of_range(p: &Profile) -> bool {
-    let sizes = m_out_of_range(p.m) || s_out_of_range(p.s) || o_out_of_range(p.o);
+    if page_out_of_range(p.page) {
+        return true;
+    }
+    let sizes = m_out_of_range(p.m) || s_out_of_range(p.page, p.s) || o_out_of_range(p.page, p.o);
     sizes || p.hardware == 0 || p.serial.len() > MOST_SERIAL
 }
 
@@ -169,13 +183,13 @@ pub fn flash_too_short(p: &Profile, flash_len: usize) -> bool {
     (flash_len as u64) < u64::from(p.o) + u64::from(p.s)
 }
 
-/// The rules on next, w and count.
+/// The rules on next, w and count, by the page of this profile: the state doesn't say under which one it was made.
 fn upload_malformed(p: &Profile, s: &State) -> bool {
     let (next, w, count) = (u64::from(s.next), u64::from(s.w), u64::from(s.count));
     if next > u64::from(p.s) {
         return true;
     }
-    if w > next % PAGE {
+    if w > next % u64::from(p.page) {
         return true;
     }
     count > next - w

@@ -5,7 +5,7 @@
 //! it resets nothing. A bootloader's version reply is a known version, so that nothing is written for it.
 
 use crate::board;
-use crate::check::{demand, framed, plain_profile};
+use crate::check::{demand, framed, paged_profile};
 use crate::master;
 use crate::model::*;
 use crate::rng::Rng;
@@ -102,15 +102,16 @@ struct Given {
 fn any_board(rng: &mut Rng) -> Given {
     let bus = BUSES[rng.below(2) as usize];
     let m = 32 + rng.below(225) as u32;
-    let size = rng.of(&[64, 128, 192, 640]) as u32;
-    let p = plain_profile(bus, m, size, rng.of(&[0, 64, 128]) as u32);
+    let page = rng.of(&PAGES.map(u64::from)) as u32;
+    let size = page * rng.of(&[1, 2, 3, 10]) as u32;
+    let p = paged_profile(bus, m, page, size, page * rng.below(3) as u32);
     let mut s = State::fresh();
     s.own = if rng.percent(30) { Own::DefaultRange } else { Own::Address(rng.byte()) };
     s.running = rng.percent(50);
     s.next = rng.below(u64::from(size) + 1) as u32;
-    s.w = rng.below(u64::from(s.next) % PAGE + 1) as u32;
+    s.w = rng.below(u64::from(s.next % page) + 1) as u32;
     s.count = rng.below(u64::from(s.next - s.w) + 1) as u32;
-    s.waiting.copy_from_slice(&rng.bytes(64));
+    s.waiting.copy_from_slice(&rng.bytes(MOST_PAGE));
     s.reply.copy_from_slice(&rng.bytes(256));
     if bus == Bus::I2c {
         s.reply_len = rng.below(u64::from(m) + 1) as u32;
@@ -120,7 +121,7 @@ fn any_board(rng: &mut Rng) -> Given {
     let mut given = Given { p, s, flash: rng.bytes(need + past_flash), room: m as usize + past_room };
     match rng.below(40) {
         0 => given.room = rng.below(u64::from(m)) as usize,
-        1 => given.s.w = given.s.next % 64 + 1,
+        1 => given.s.w = given.s.next % page + 1,
         2 => given.flash.truncate(need - 1),
         3 => given.p.hardware = 0,
         _ => {}

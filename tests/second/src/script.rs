@@ -55,17 +55,18 @@ impl Runner {
     }
 
     fn set_profile(&mut self, f: Fields) -> Result<(), String> {
-        count_fields(f, 9)?;
+        count_fields(f, 10)?;
         self.profile = Some(Profile {
             bus: bus(f[0])?,
             m: number("M", f[1], MOST_NUMBER)? as u32,
-            s: number("S", f[2], MOST_NUMBER)? as u32,
-            o: number("O", f[3], MOST_NUMBER)? as u32,
-            hardware: number("hardware", f[4], 255)? as u8,
-            compatible: number("compatible", f[5], 255)? as u8,
-            actual: number("actual", f[6], 255)? as u8,
-            version: number("version", f[7], 255)? as u8,
-            serial: bytes("serial", f[8], 40)?,
+            page: number("page", f[2], MOST_NUMBER)? as u32,
+            s: number("S", f[3], MOST_NUMBER)? as u32,
+            o: number("O", f[4], MOST_NUMBER)? as u32,
+            hardware: number("hardware", f[5], 255)? as u8,
+            compatible: number("compatible", f[6], 255)? as u8,
+            actual: number("actual", f[7], 255)? as u8,
+            version: number("version", f[8], 255)? as u8,
+            serial: bytes("serial", f[9], 40)?,
         });
         Ok(())
     }
@@ -88,7 +89,7 @@ impl Runner {
     fn set_state(&mut self, f: Fields) -> Result<(), String> {
         count_fields(f, 8)?;
         let own = number("own", f[0], 256)?;
-        let waiting = bytes("waiting", f[6], 64)?;
+        let waiting = bytes("waiting", f[6], MOST_PAGE)?;
         let reply = bytes("reply", f[7], 256)?;
         self.state = State {
             own: if own == 256 { Own::DefaultRange } else { Own::Address(own as u8) },
@@ -97,7 +98,7 @@ impl Runner {
             w: number("w", f[3], MOST_NUMBER)? as u32,
             count: number("count", f[4], MOST_NUMBER)? as u32,
             reply_len: number("replylen", f[5], MOST_NUMBER)? as u32,
-            waiting: waiting.try_into().map_err(|_| "waiting needs exactly 64 bytes".to_string())?,
+            waiting: waiting.try_into().map_err(|_| format!("waiting needs exactly {MOST_PAGE} bytes"))?,
             reply: reply.try_into().map_err(|_| "reply needs exactly 256 bytes".to_string())?,
         };
         Ok(())
@@ -379,7 +380,7 @@ mod tests {
 
     #[test]
     fn version_request_of_the_examples() {
-        let text = b"P 0 256 128 0 7 16 19 3 -\nF 128 0 255\nR 8 00f3\n";
+        let text = b"P 0 256 64 128 0 7 16 19 3 -\nF 128 0 255\nR 8 00f3\n";
         let (output, errors) = answer_all(text);
         assert!(errors.is_empty());
         assert!(output.starts_with("R 0 0002020223 256 0 0 0 0 - 0002020223 "));
@@ -387,7 +388,7 @@ mod tests {
 
     #[test]
     fn tally_lines() {
-        let board = ["P 1 32 64 0 7 16 19 3 -", "F 64 0 255"];
+        let board = ["P 1 32 64 64 0 7 16 19 3 -", "F 64 0 255"];
         let calls = ["C 0 -", "R 0 -", "C 0 10000c70", "K 65535 65534 0 0 9", "Z", "C 9 00468042", "C 0 -", "C 0 08000670"];
         let (output, errors) = answer_all([&board[..], &calls].concat().join("\n").as_bytes());
         assert!(errors.is_empty());
@@ -402,6 +403,20 @@ mod tests {
         assert_eq!(errors.len(), bad.len());
         assert!(output.starts_with("C 15 ") && output.ends_with(" 1 1 0 0 0 0\n"));
         assert_eq!(answer_all(b"C 0 -\nK 0 0 0 0 0\n").1.len(), 1);
+    }
+
+    /// Lines without a page, and with a waiting buffer of 64 bytes, are no lines.
+    #[test]
+    fn profile_and_state_lines() {
+        let (waiting, reply) = ("a1".repeat(128), "b2".repeat(256));
+        let board = ["P 0 256 128 256 0 7 16 19 3 -", "F 256 0 255"];
+        let state = format!("S 256 0 127 127 0 0 {waiting} {reply}");
+        let (output, errors) = answer_all([&board[..], &[state.as_str(), "R 8 07e6"]].concat().join("\n").as_bytes());
+        assert!(errors.is_empty());
+        assert!(output.starts_with("R 0 0002000100 256 0 127 0 1 - "));
+        let short = format!("S 256 0 0 0 0 0 {} {reply}", &waiting[..128]);
+        let bad = ["P 0 256 256 0 7 16 19 3 -", "P 0 256 x 256 0 7 16 19 3 -", short.as_str()];
+        assert_eq!(answer_all(bad.join("\n").as_bytes()).1.len(), bad.len());
     }
 
     #[test]

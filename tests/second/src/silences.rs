@@ -3,7 +3,7 @@
 
 use crate::bits;
 use crate::board;
-use crate::check::{demand, framed, general_frame, plain_profile, write_frame};
+use crate::check::{demand, framed, general_frame, paged_profile, plain_profile, write_frame};
 use crate::model::*;
 use crate::rng::Rng;
 use crate::tally::Tally;
@@ -291,7 +291,9 @@ fn sealed(bus: Bus, body: &[u8]) -> Vec<u8> {
 
 fn one_list(rng: &mut Rng, counts: &mut Counts) -> Result<(), String> {
     let bus = if rng.percent(30) { Bus::I2c } else { Bus::Rs485 };
-    let p = plain_profile(bus, rng.of(&[32, 33, 64, 255, 256, 256]) as u32, 128, 64);
+    let m = rng.of(&[32, 33, 64, 255, 256, 256]) as u32;
+    let page = rng.of(&PAGES.map(u64::from)) as u32;
+    let p = paged_profile(bus, m, page, 128, page);
     let own = match rng.below(6) {
         0 => Own::Address(rng.byte()),
         1 => Own::Address(rng.of(&[0, 1, 20, 127, 128, 255]) as u8),
@@ -299,7 +301,7 @@ fn one_list(rng: &mut Rng, counts: &mut Counts) -> Result<(), String> {
     };
     let s = State { own, running: rng.percent(10), next: 70, w: 6, count: 1, ..State::fresh() };
     let watched = Watched::new(any_tally(rng));
-    let mut twin = Twin { p, s, flash: vec![0xff; 192], watched };
+    let mut twin = Twin { p, s, flash: vec![0xff; 256], watched };
     for step in 0..10 + rng.below(40) {
         let own = match twin.s.own {
             Own::DefaultRange => 8 + rng.byte() % 8,
@@ -323,7 +325,7 @@ fn one_list(rng: &mut Rng, counts: &mut Counts) -> Result<(), String> {
         let address = rng.of(&[u64::from(own), u64::from(own), u64::from(own), 0, 16, 200]) as u8;
         twin.receive(room, address, &frame, counts).map_err(|e| format!("{e}; call {step}: {address} {frame:02x?}"))?;
         if rng.percent(4) {
-            twin.s.w = if rng.percent(50) { 0 } else { twin.s.next % 64 + 1 };
+            twin.s.w = if rng.percent(50) { 0 } else { twin.s.next % page + 1 };
         }
     }
     Ok(())

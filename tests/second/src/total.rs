@@ -2,7 +2,7 @@
 
 use crate::board;
 use crate::ledger::{Ledger, Seen};
-use crate::check::{demand, framed, plain_profile, write_frame};
+use crate::check::{demand, framed, paged_profile, write_frame};
 use crate::master::{self, Request};
 use crate::model::*;
 use crate::rng::Rng;
@@ -46,7 +46,8 @@ fn any_number(rng: &mut Rng) -> u32 {
 
 fn any_profile(rng: &mut Rng) -> Profile {
     let bus = if rng.percent(50) { Bus::I2c } else { Bus::Rs485 };
-    let mut p = plain_profile(bus, any_number(rng), any_number(rng), any_number(rng));
+    let page = any_number(rng);
+    let mut p = paged_profile(bus, any_number(rng), page, any_number(rng), any_number(rng));
     p.hardware = rng.byte() % 8;
     let length = rng.of(&[0, 3, 16, 17, 40]) as usize;
     p.serial = rng.bytes(length);

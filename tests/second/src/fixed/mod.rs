@@ -6,6 +6,7 @@ mod examples;
 mod frames;
 mod half_bytes;
 mod master;
+mod pages;
 mod refusals;
 mod reserved;
 mod running;
@@ -36,12 +37,13 @@ pub fn all() -> Sheet {
     running::running_applications(&mut sheet);
     silences::silences(&mut sheet);
     append_random(&mut sheet);
+    pages::pages(&mut sheet);
     sheet
 }
 
-/// Some random lists, so that the fixed set has mixed traffic too.
+/// Some random lists with pages of 64, so that the fixed set has mixed traffic too.
 fn append_random(sheet: &mut Sheet) {
-    let random = crate::cases::random(2202, 60);
+    let random = crate::cases::random_with(2202, 60, &[64]);
     for line in random.cases.lines() {
         sheet.line(line);
     }
