@@ -19,23 +19,22 @@ use Rattle.commit.specs.Progress.{progressOf, Ready, Part, CommitCounted}
 use Rattle.commit.proofs.Laws.{takenAll-appended, takenAll-committed, used-overlay, ready-bounds, emptied, fitting}
 use Rattle.commit.proofs.Laws.{committed-counted, kept-upload, ready-taken}
 
--- u and d are what the first i bytes make of u₀ and d₀; the code holds the profile's page as a number
-pub record Reached (p : Profile) (page : ℕ) (u₀ : Upload) (d₀ bytes : List ℕ) (i : ℕ) (u : Upload) (d : List ℕ) : Type 0 where
+-- u and d are what the first i bytes make of u₀ and d₀
+pub record Reached (p : Profile) (u₀ : Upload) (d₀ bytes : List ℕ) (i : ℕ) (u : Upload) (d : List ℕ) : Type 0 where
   pub reached-most : i ≤ length bytes
   pub buffer : length (u .waiting) ≡ largestPage
   pub progress : progressOf u d ≡ takenAll (profileOf p) (progressOf u₀ d₀) (take i bytes)
   -- and the numbers that follow from these
   pub next-is : u .next ≡ u₀ .next + i
-  pub held : HeldFacts page (p .size) u
-  pub page-is : page ≡ profileOf p .page
-  pub page-least : 0 < page
-  pub page-most : page ≤ largestPage
+  pub held : HeldFacts (p .page) (p .size) u
+  pub page-least : 0 < p .page
+  pub page-most : p .page ≤ largestPage
   pub flash-length : length d ≡ length d₀
 
-module _ {p : Profile} {page : ℕ} {u₀ : Upload} (d₀ : List ℕ) (ready : Ready p u₀ (length d₀)) (bytes : List ℕ)
-    (fits : u₀ .next + length bytes ≤ p .size) (is : page ≡ profileOf p .page) where
+module _ {p : Profile} {u₀ : Upload} (d₀ : List ℕ) (ready : Ready p u₀ (length d₀)) (bytes : List ℕ)
+    (fits : u₀ .next + length bytes ≤ p .size) where
   pub reached : (i : ℕ) (u : Upload) {d : List ℕ} → i ≤ length bytes → length (u .waiting) ≡ largestPage
-      → progressOf u d ≡ takenAll (profileOf p) (progressOf u₀ d₀) (take i bytes) → Reached p page u₀ d₀ bytes i u d
+      → progressOf u d ≡ takenAll (profileOf p) (progressOf u₀ d₀) (take i bytes) → Reached p u₀ d₀ bytes i u d
   reached i u most buffer e =
       let n : length (take i bytes) ≡ i = length-take-le i bytes most in
       let kept = ready-taken d₀ ready (take i bytes) (rw n (omega arith)) in
@@ -45,15 +44,14 @@ module _ {p : Profile} {page : ℕ} {u₀ : Upload} (d₀ : List ℕ) (ready : R
         buffer = buffer;
         progress = e;
         next-is = rw n at next;
-        held = rw is (upload-held (profileOf p .page) (p .size) u (kept-upload p u e kept));
-        page-is = is;
-        page-least = rw is (ready-bounds ready .profile .page-least);
-        page-most = rw is (ready-bounds ready .profile .page-most);
+        held = upload-held (p .page) (p .size) u (kept-upload p u e kept);
+        page-least = ready-bounds ready .profile .page-least;
+        page-most = ready-bounds ready .profile .page-most;
         flash-length = ap (λ (g : Progress). length (g .flash)) e ∙ kept .outside .length-kept;
       }
 
   -- where the loop begins
-  pub reached-none : length (u₀ .waiting) ≡ largestPage → Reached p page u₀ d₀ bytes 0 u₀ d₀
+  pub reached-none : length (u₀ .waiting) ≡ largestPage → Reached p u₀ d₀ bytes 0 u₀ d₀
   unfolding takenAll
   reached-none buffer = reached 0 u₀ (omega arith) buffer refl
 
@@ -61,9 +59,9 @@ module _ {p : Profile} {page : ℕ} {u₀ : Upload} (d₀ : List ℕ) (ready : R
 abbrev pub filled : Upload → ℕ → List ℕ → Upload
 filled u n ws = record { next = u .next + n; held = u .held + n; count = u .count; waiting = ws }
 
-module _ {p : Profile} {page : ℕ} {u₀ : Upload} {d₀ bytes : List ℕ} {i : ℕ} {u : Upload} {d : List ℕ} {n : ℕ}
-    (ready : Ready p u₀ (length d₀)) (fits : u₀ .next + length bytes ≤ p .size) (before : Reached p page u₀ d₀ bytes i u d)
-    (part : Part page (u .next) (length bytes - i) n) where
+module _ {p : Profile} {u₀ : Upload} {d₀ bytes : List ℕ} {i : ℕ} {u : Upload} {d : List ℕ} {n : ℕ}
+    (ready : Ready p u₀ (length d₀)) (fits : u₀ .next + length bytes ≤ p .size) (before : Reached p u₀ d₀ bytes i u d)
+    (part : Part (p .page) (u .next) (length bytes - i) n) where
   length-part : length (take n (drop i bytes)) ≡ n
   length-part = length-take-le n (drop i bytes) (simp length-drop (part .within))
 
@@ -94,29 +92,29 @@ module _ {p : Profile} {page : ℕ} {u₀ : Upload} {d₀ bytes : List ℕ} {i :
         rw (part-stored, length-part, rw length-part at more)
 
     -- a part that ends before its page does: that is all
-    pub turn-appended : ((u .next + n) % page ≡ 0 → ⊥) → Reached p page u₀ d₀ bytes (i + n) (filled u n ws) d
+    pub turn-appended : ((u .next + n) % p .page ≡ 0 → ⊥) → Reached p u₀ d₀ bytes (i + n) (filled u n ws) d
     turn-appended short =
-        reached d₀ ready bytes fits (before .page-is) (i + n) (filled u n ws) (omega arith) buffer-stored
+        reached d₀ ready bytes fits (i + n) (filled u n ws) (omega arith) buffer-stored
         (filled-appended
         ∙ sym (takenAll-appended (profileOf p) (progressOf u d) (take n (drop i bytes))
-        (rw (length-part, ← before .page-is) (part .in-page))
-        (rw (length-part, ← before .page-is) short))
+        (rw length-part (part .in-page))
+        (rw length-part short))
         ∙ takenAll-part)
 
     -- a part that ends with its page: the page is committed
-    pub turn-committed : {count : ℕ} {d′ : List ℕ} → (u .next + n) % page ≡ 0
+    pub turn-committed : {count : ℕ} {d′ : List ℕ} → (u .next + n) % p .page ≡ 0
         → CommitCounted d (p .offset + (u .next + n - (u .held + n))) (take (u .held + n) ws) (u .count) count d′
-        → Reached p page u₀ d₀ bytes (i + n) (emptied (filled u n ws) count) d′
+        → Reached p u₀ d₀ bytes (i + n) (emptied (filled u n ws) count) d′
     turn-committed {count} whole settled =
-        let place = sub-mod page (u .next) (u .held) (before .page-least) (before .held .held-most) in
+        let place = sub-mod (p .page) (u .next) (u .held) (before .page-least) (before .held .held-most) in
         let shift : u .next + n - (u .held + n) ≡ u .next - u .held = omega arith in
         let lies =
         fitting p (filled u n ws) d (ready-bounds ready .profile) (omega arith) (omega arith) (omega arith)
-        (rw (shift, ← before .page-is) (omega arith)) in
-        reached d₀ ready bytes fits (before .page-is) (i + n) (emptied (filled u n ws) count) (omega arith) buffer-stored
+        (rw shift (omega arith)) in
+        reached d₀ ready bytes fits (i + n) (emptied (filled u n ws) count) (omega arith) buffer-stored
         (sym (committed-counted p (filled u n ws) lies (rw buffer-stored (omega arith)) settled)
         ∙ ap (committed (profileOf p)) filled-appended
         ∙ sym (takenAll-committed (profileOf p) (progressOf u d) (take n (drop i bytes))
-        (rw (length-part, ← before .page-is) (part .in-page))
-        (rw length-part (part .some)) (rw (length-part, ← before .page-is) whole))
+        (rw length-part (part .in-page))
+        (rw length-part (part .some)) (rw length-part whole))
         ∙ takenAll-part)

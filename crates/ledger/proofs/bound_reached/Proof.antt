@@ -20,7 +20,10 @@ unfolding same overlay inRange uploadFormed wellFormed refusal
     bit byte run sum sealed sumRight request reply resetFrame resetAddressFrame addressed framing verdict
     committed taken takenAll finalized tabled written finished performed executed handled received
     commits joins joinsAll writes finalizes entered trace
-reached = record { counts = refl; finals = refl; bounds = refl }
+reached = record {
+  page-64 = record { counts-are = refl; finals-are = refl; bounds-are = refl };
+  page-128 = record { counts-are = refl; finals-are = refl; bounds-are = refl };
+}
 
 returns : tie.Need-returns
 returns c = reached

@@ -1,6 +1,6 @@
 -- `upload::take` meets its contract. Invariant: `Reached`, where the first i bytes lead. A turn takes a part that lies in one page, by
 -- `turn-appended` or `turn-committed`.
-use mathlib.Core.Path.{_≡_, refl}
+use mathlib.Core.Path.{_≡_}
 use Prim.Native.Nat.{_-_}
 use native.Mathlib.Omega.{arith}
 use lib.ListN.{length, length-take, length-drop}
@@ -14,7 +14,7 @@ use Rattle.upload.proofs.take.Tie as tie
 
 abbrev Inv-loop : tie.InvT-loop
 Inv-loop p bytes flash₀ page next₀ held₀ count₀ waiting₀ i₀ flash next held count waiting i =
-    Reached p page (record { next = next₀; held = held₀; count = count₀; waiting = waiting₀ }) flash₀ bytes i
+    Reached p (record { next = next₀; held = held₀; count = count₀; waiting = waiting₀ }) flash₀ bytes i
     (record { next = next; held = held; count = count; waiting = waiting }) flash
 
 abbrev μ-loop : tie.MeasureT-loop
@@ -26,7 +26,7 @@ buffer-long c = search needs
 loop-holds : tie.Need-loop-holds Inv-loop μ-loop
 loop-holds c =
     let start = c .before .before .before in
-    reached-none (start .args .flash .now) (start .pre .0) (start .args .bytes .now) (start .pre .1) refl (buffer-long start)
+    reached-none (start .args .flash .now) (start .pre .0) (start .args .bytes .now) (start .pre .1) (buffer-long start)
 
 sub-part : tie.Need-sub-part Inv-loop μ-loop
 sub-part c = search needs
