@@ -16,7 +16,7 @@ mod-multiple n page multiple e =
     rw (← mod-mod-of-dvd page n (dvd-of-mod-eq-zero page e)) (mod-le (n % multiple) page)
 
 pub multiple-takes : MultipleTakes
-multiple-takes p page s pos e formed =
+multiple-takes p page s e formed =
     let facts = wellFormed-facts p s formed in
     let u = s .upload in
     facts-wellFormed (withPage p page) s

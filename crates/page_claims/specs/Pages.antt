@@ -4,7 +4,7 @@ use mathlib.Core.Path.{_≡_}
 use mathlib.Core.Logic.{_⊎_}
 use mathlib.Core.Bool.{true, false}
 use mathlib.Core.List.{List, []}
-use Prim.Native.Nat.{ℕ, _+_, _-_, _%_, _<_, _≤_}
+use Prim.Native.Nat.{ℕ, _+_, _-_, _%_, _≤_}
 use lib.ListN.{length}
 use Rattle.rules.specs.Bytes.{overlay}
 use Rattle.rules.specs.Profile.{Profile, inRange}
@@ -53,9 +53,9 @@ pub record HandedIn (B : Board) (shows : B .Kept → State) : Type 0 where
 -- a state that is well formed under a page is so under every multiple of it: one made under 64 bytes is always taken under 128
 abbrev pub MultipleTakes : Type 0
 MultipleTakes =
-    (p : Profile) (page : ℕ) (s : State) → 0 < page → page % p .page ≡ 0 → wellFormed p s ≡ true → wellFormed (withPage p page) s ≡ true
+    (p : Profile) (page : ℕ) (s : State) → page % p .page ≡ 0 → wellFormed p s ≡ true → wellFormed (withPage p page) s ≡ true
 
 -- the other way round, which does not hold
 abbrev pub DivisorTakes : Type 0
 DivisorTakes =
-    (p : Profile) (page : ℕ) (s : State) → 0 < page → p .page % page ≡ 0 → wellFormed p s ≡ true → wellFormed (withPage p page) s ≡ true
+    (p : Profile) (page : ℕ) (s : State) → p .page % page ≡ 0 → wellFormed p s ≡ true → wellFormed (withPage p page) s ≡ true
