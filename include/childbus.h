@@ -109,9 +109,9 @@ extern "C" {
  * A buffer shorter than CHILDBUS_PROFILE_BYTES, or a field out of its range, is number 2. Bytes past 36 are not looked
  * at. Fill the profile with 0 before its fields are set: a later version may give these bytes a meaning.
  *
- * What an old caller must change: libraries before 0.6.0 did not look at byte 6 and had pages of 64 bytes. A caller that
- * set it to 0, as their header asked, keeps working; any other value there was ignored and is 128-byte pages or number 2
- * now. The state has grown, see below.
+ * What an old caller must change: libraries without CHILDBUS_PROFILE_PAGE in their header did not look at byte 6 and had
+ * pages of 64 bytes. A caller that set it to 0, as their header asked, keeps working; any other value there was ignored
+ * and is 128-byte pages or number 2 now. The state has grown, see below.
  */
 #define CHILDBUS_PROFILE_BYTES 36u
 #define CHILDBUS_PROFILE_BUS            0
@@ -154,9 +154,9 @@ extern "C" {
  * The state does not hold its page. One made under another page is judged by the rule above alone: number 4, or taken,
  * and then its waiting bytes still go to their own places, next - w .. next - 1.
  *
- * What an old caller must change: the state had 340 bytes before 0.6.0. A buffer of CHILDBUS_STATE_BYTES grows when its
- * program is compiled with this header; one of 340 bytes is answered 4. State bytes kept from an older library mean
- * something else here: begin with childbus_fresh.
+ * What an old caller must change: the state had 340 bytes in libraries without CHILDBUS_PROFILE_PAGE. A buffer of
+ * CHILDBUS_STATE_BYTES grows when its program is compiled with this header; one of 340 bytes is answered 4. State bytes
+ * kept from an older library mean something else here: begin with childbus_fresh.
  */
 #define CHILDBUS_STATE_BYTES 404u
 #define CHILDBUS_STATE_ADDRESS_KIND   0

@@ -31,8 +31,8 @@ pub fn code_handed_in()
     ensures { λ _. ⌜ CodeHandedIn ⌝ }
 {}
 
-// A board that lays waiting bytes from the start of their page on, one that does not lay them, one that lays them and keeps them waiting, one that takes a
-// malformed state, and one that judges by pages of 64 bytes: refuted.
+// A board that lays waiting bytes from the start of their page on, one that does not lay them, one that lays them and keeps them waiting,
+// one that takes a malformed state, and one that judges by pages of 64 bytes: refuted.
 pub fn wrong_pages()
     ensures { λ _. ⌜ (HandedIn laysAtPageStart (λ s. s) → ⊥) × (HandedIn keepsFlash (λ s. s) → ⊥)
         × (HandedIn keepsWaiting (λ s. s) → ⊥) × (HandedIn takesMalformed (λ s. s) → ⊥)
