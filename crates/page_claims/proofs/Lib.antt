@@ -2,5 +2,6 @@
 pub mod Sizes
 pub mod Multiples
 pub mod HandedIn
+pub mod GoesOn
 pub mod OfCode
 pub mod WrongCases

@@ -3,15 +3,15 @@
 use mathlib.Core.Path.{_≡_}
 use mathlib.Core.Logic.{_⊎_}
 use mathlib.Core.Bool.{true, false}
-use mathlib.Core.List.{List, []}
+use mathlib.Core.List.{List, [], _++_}
 use Prim.Native.Nat.{ℕ, _+_, _-_, _%_, _≤_}
 use lib.ListN.{length}
 use Rattle.rules.specs.Bytes.{overlay}
 use Rattle.rules.specs.Profile.{Profile, inRange}
-use Rattle.rules.specs.State.{State, Upload, wellFormed}
+use Rattle.rules.specs.State.{State, Upload, freshUpload, uploadFormed, wellFormed}
 use Rattle.rules.specs.Numbers.{refusal}
 use Rattle.rules.specs.Frames.{commandOf, argumentsOf}
-use Rattle.rules.specs.Commit.{pageStart}
+use Rattle.rules.specs.Commit.{Progress, pageStart, takenAll, finalized}
 use Rattle.ledger.specs.Calls.{Call, Frame, Board}
 use Rattle.demands.specs.Past.{pastOf, wellFramed}
 use Rattle.wrongboards.specs.Variations.{withPage}
@@ -49,6 +49,16 @@ pub record HandedIn (B : Board) (shows : B .Kept → State) : Type 0 where
       → wellFramed p (pastOf (shows s)) a f ≡ true → commandOf (p .bus) f ≡ 0x07 → argumentsOf (p .bus) f ≡ []
       → (B .call p s d (Frame a f n) .number ≡ 0)
       × Laid p (shows s .upload) d (shows (B .call p s d (Frame a f n) .state) .upload) (B .call p s d (Frame a f n) .flash)
+
+-- an upload from 0 on, begun under one page and gone on under another where its state is well formed: after the finalize the image stands
+-- in flash as a whole, and every other byte is as it was
+abbrev pub GoesOn : Type 0
+GoesOn =
+    (p : Profile) (page : ℕ) (d first second : List ℕ) → inRange p ≡ true → inRange (withPage p page) ≡ true
+    → p .offset + p .size ≤ length d → length (first ++ second) ≤ p .size
+    → let begun : Progress = takenAll p (record { upload = freshUpload; flash = d }) first in
+    uploadFormed page (p .size) (begun .upload) ≡ true
+    → finalized (withPage p page) (takenAll (withPage p page) begun second) .flash ≡ overlay d (p .offset) (first ++ second)
 
 -- a state that is well formed under a page is so under every multiple of it: one made under 64 bytes is always taken under 128
 abbrev pub MultipleTakes : Type 0

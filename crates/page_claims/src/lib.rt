@@ -2,7 +2,7 @@
 ghost use Rattle.ledger.specs.Calls.{ruled};
 ghost use Rattle.wrongboards.specs.Variations.{pagedBy};
 ghost use Rattle.wrongboards.specs.WrongBoards.{keepsFlash};
-ghost use Rattle.page_claims.specs.Pages.{SizesPaged, HandedIn, MultipleTakes, DivisorTakes};
+ghost use Rattle.page_claims.specs.Pages.{SizesPaged, HandedIn, GoesOn, MultipleTakes, DivisorTakes};
 ghost use Rattle.page_claims.specs.OfCode.{CodeHandedIn};
 ghost use Rattle.page_claims.specs.WrongPages.{laysAtPageStart, keepsWaiting, takesMalformed};
 
@@ -14,6 +14,11 @@ pub fn sizes_paged()
 // A state, whatever page it was made under, is malformed by the profile's rule, or a finalize lays its waiting bytes at their own places.
 pub fn handed_in()
     ensures { λ _. ⌜ HandedIn ruled (λ s. s) ⌝ }
+{}
+
+// An upload begun under one page and gone on under another, where its state is taken, stands in flash as a whole.
+pub fn goes_on()
+    ensures { λ _. ⌜ GoesOn ⌝ }
 {}
 
 // A state made under 64 bytes is taken under 128.
