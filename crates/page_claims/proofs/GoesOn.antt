@@ -31,7 +31,9 @@ module _ (p : Profile) (page : ℕ) (d first second : List ℕ) (one : ProfileFa
   both = omega (arith, length-append first second)
 
   begun-stands : Stands q d first begun
-  begun-stands = stands-on p page d first begun (takenAll-stands p one d room [] (begins d) first (begins-stands p d) (begins-formed p) (omega (arith, both)))
+  begun-stands =
+      stands-on p page d first begun
+      (takenAll-stands p one d room [] (begins d) first (begins-stands p d) (begins-formed p) (omega (arith, both)))
 
   module _ (formed : UploadFacts page (p .size) (begun .upload)) where
     further : begun .upload .next + length second ≤ p .size
