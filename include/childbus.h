@@ -7,7 +7,14 @@
  * Buffers
  *   A buffer is a pointer and a length in bytes. Pointers are not NULL, not even with length 0. The buffers of one call
  *   and the places of its single results do not overlap. Only buffers without const are written. Profile, state and
- *   tally have a layout of their own, below; their numbers are little-endian. Alignment does not matter.
+ *   tally have a layout of their own, below; their numbers are little-endian. A buffer's alignment does not matter.
+ *
+ * Widths
+ *   Lengths, places and *made, *start and *len have 64 bits on every machine, those with pointers of 32 bits too; every
+ *   other number has 32. All bits of an answer and of a result mean something. The 64-bit results (made, start, len) stand
+ *   in objects of type uint64_t: any such object is aligned well enough; a cast pointer to other bytes may not be.
+ *   What an old caller must change: these were of type size_t, which has 64 bits where the library ran until now, x86-64.
+ *   With a compiler whose uint64_t is another type than size_t, the variables for made, start and len become uint64_t.
  *
  * Answers
  *   Every function answers one of the numbers below, except childbus_two_reads. With a number of 2 or above every buffer
@@ -22,10 +29,6 @@
 
 #include <stddef.h>
 #include <stdint.h>
-
-#if SIZE_MAX < 0xffffffffffffffffu
-#error "childbus.h: the library takes and gives lengths of 64 bits"
-#endif
 
 #ifdef __cplusplus
 extern "C" {
@@ -176,7 +179,7 @@ extern "C" {
  *
  * Answers 0; 4 if the buffer is shorter than 404.
  */
-uint32_t childbus_fresh(uint8_t *state, size_t state_len);
+uint32_t childbus_fresh(uint8_t *state, uint64_t state_len);
 
 /*
  * The board: one received frame. On I2C a write by the master, without its address byte; on RS485 the bytes between
@@ -208,9 +211,9 @@ uint32_t childbus_fresh(uint8_t *state, size_t state_len);
  * upload are kept, so on I2C that reply is read at the old address. A board whose state has such an address already
  * listens there (at 0: to general calls only).
  */
-uint32_t childbus_receive(const uint8_t *profile, size_t profile_len, uint8_t *state, size_t state_len,
-                          uint32_t address, const uint8_t *frame, size_t frame_len, uint8_t *flash, size_t flash_len,
-                          uint8_t *out, size_t out_len, size_t *made);
+uint32_t childbus_receive(const uint8_t *profile, uint64_t profile_len, uint8_t *state, uint64_t state_len,
+                          uint32_t address, const uint8_t *frame, uint64_t frame_len, uint8_t *flash, uint64_t flash_len,
+                          uint8_t *out, uint64_t out_len, uint64_t *made);
 
 /* Nothing to send and nothing wrong with the call: 1, and on RS485 15 to 18. */
 static inline int childbus_silent(uint32_t number)
@@ -247,10 +250,10 @@ static inline int childbus_silent(uint32_t number)
  *
  * I2C reads are not counted: they are no received frames.
  */
-uint32_t childbus_receive_tally(const uint8_t *profile, size_t profile_len, uint8_t *state, size_t state_len,
-                                uint32_t address, const uint8_t *frame, size_t frame_len, uint8_t *flash,
-                                size_t flash_len, uint8_t *out, size_t out_len, uint8_t *tally, size_t tally_len,
-                                size_t *made);
+uint32_t childbus_receive_tally(const uint8_t *profile, uint64_t profile_len, uint8_t *state, uint64_t state_len,
+                                uint32_t address, const uint8_t *frame, uint64_t frame_len, uint8_t *flash,
+                                uint64_t flash_len, uint8_t *out, uint64_t out_len, uint8_t *tally, uint64_t tally_len,
+                                uint64_t *made);
 
 /*
  * The board: an I2C read at an address. It hands out the last reply and keeps it as it is.
@@ -262,9 +265,9 @@ uint32_t childbus_receive_tally(const uint8_t *profile, size_t profile_len, uint
  * Answers 0: the first *made bytes of out go to the master. 1: no last reply, a foreign address, address 0, running, or
  * an RS485 profile. 2, 3, 4, 5: refused, tested in this order.
  */
-uint32_t childbus_read(const uint8_t *profile, size_t profile_len, const uint8_t *state, size_t state_len,
-                       uint32_t address, const uint8_t *flash, size_t flash_len, uint8_t *out, size_t out_len,
-                       size_t *made);
+uint32_t childbus_read(const uint8_t *profile, uint64_t profile_len, const uint8_t *state, uint64_t state_len,
+                       uint32_t address, const uint8_t *flash, uint64_t flash_len, uint8_t *out, uint64_t out_len,
+                       uint64_t *made);
 
 /*
  * The master: a request with its CRC. On I2C the destination is not in the request: the caller addresses the write.
@@ -287,7 +290,7 @@ uint32_t childbus_read(const uint8_t *profile, size_t profile_len, const uint8_t
  * request is longer than out_len. Tested in the order 2, 7, 6.
  */
 uint32_t childbus_encode(uint32_t bus, uint32_t longest, uint32_t code, uint32_t destination, uint32_t a, uint32_t b,
-                         const uint8_t *data, size_t data_len, uint8_t *out, size_t out_len, size_t *made);
+                         const uint8_t *data, uint64_t data_len, uint8_t *out, uint64_t out_len, uint64_t *made);
 
 /*
  * The master: a general call, to all boards at address 0; no board replies.
@@ -299,7 +302,7 @@ uint32_t childbus_encode(uint32_t bus, uint32_t longest, uint32_t code, uint32_t
  *
  * Answers 0, 2 or 6, tested in the order 2, 6.
  */
-uint32_t childbus_general(uint32_t bus, uint32_t longest, uint32_t reset, uint8_t *out, size_t out_len, size_t *made);
+uint32_t childbus_general(uint32_t bus, uint32_t longest, uint32_t reset, uint8_t *out, uint64_t out_len, uint64_t *made);
 
 /*
  * The master: a reply taken apart. The results stay in the reply: *len bytes from reply[*start] on.
@@ -316,7 +319,7 @@ uint32_t childbus_general(uint32_t bus, uint32_t longest, uint32_t reset, uint8_
  * Answers 0, or 7, 8, 11, 9, 10, 12, 13, tested in this order; then status, start and len are 0.
  */
 uint32_t childbus_decode(uint32_t bus, uint32_t code, uint32_t address, uint32_t asked, const uint8_t *reply,
-                         size_t reply_len, uint32_t *status, size_t *start, size_t *len);
+                         uint64_t reply_len, uint32_t *status, uint64_t *start, uint64_t *len);
 
 /*
  * The master: one reply on I2C, read twice. Decodes means that childbus_decode answers 0, whatever the status.
@@ -332,8 +335,8 @@ uint32_t childbus_decode(uint32_t bus, uint32_t code, uint32_t address, uint32_t
  * It gives no status, and the results may stand beside a status other than OK. The status is what childbus_decode gives
  * for the read that the answer names, with CHILDBUS_I2C, the same code and asked; start and len are the same there.
  */
-uint32_t childbus_two_reads(uint32_t code, uint32_t asked, const uint8_t *first, size_t first_len,
-                            const uint8_t *second, size_t second_len, size_t *start, size_t *len);
+uint32_t childbus_two_reads(uint32_t code, uint32_t asked, const uint8_t *first, uint64_t first_len,
+                            const uint8_t *second, uint64_t second_len, uint64_t *start, uint64_t *len);
 
 /*
  * The version rule: minors 0 and 1 of major 1 and 0 to 2 of major 2 are known; a higher one counts as the highest.
@@ -362,7 +365,7 @@ uint32_t childbus_version(uint32_t major, uint32_t minor, uint32_t *known_major,
  * order. 6 only where there is a request to write.
  */
 uint32_t childbus_reset_running(uint32_t bus, uint32_t longest, uint32_t major, uint32_t minor, uint8_t *out,
-                                size_t out_len, size_t *made);
+                                uint64_t out_len, uint64_t *made);
 
 #ifdef __cplusplus
 }

@@ -50,9 +50,9 @@ unsigned board_page(const struct board *board)
     return board->profile[CHILDBUS_PROFILE_PAGE] == CHILDBUS_PAGE_64 ? CHILDBUS_PAGE : CHILDBUS_PAGE_MAX;
 }
 
-size_t board_frame(struct board *board, uint32_t address, const uint8_t *frame, size_t len)
+uint64_t board_frame(struct board *board, uint32_t address, const uint8_t *frame, uint64_t len)
 {
-    size_t made;
+    uint64_t made;
     board->number = childbus_receive_tally(board->profile, sizeof board->profile, board->state, sizeof board->state,
                                            address, frame, len, board->flash, sizeof board->flash, board->reply,
                                            sizeof board->reply, board->tally, sizeof board->tally, &made);
@@ -60,9 +60,9 @@ size_t board_frame(struct board *board, uint32_t address, const uint8_t *frame, 
     return board->profile[CHILDBUS_PROFILE_BUS] == CHILDBUS_RS485 ? made : 0;
 }
 
-size_t board_read(struct board *board, uint32_t address)
+uint64_t board_read(struct board *board, uint32_t address)
 {
-    size_t made;
+    uint64_t made;
     uint32_t number = childbus_read(board->profile, sizeof board->profile, board->state, sizeof board->state, address,
                                     board->flash, sizeof board->flash, board->reply, sizeof board->reply, &made);
     stop_if_refused(number);

@@ -25,10 +25,10 @@ unsigned board_page(const struct board *board);
 
 /* A frame has arrived: on RS485 at a silence (address: 0), on I2C at the stop of a write to address. Answers how many bytes
  * of board->reply are to be sent now; none on I2C, where the master reads. */
-size_t board_frame(struct board *board, uint32_t address, const uint8_t *frame, size_t len);
+uint64_t board_frame(struct board *board, uint32_t address, const uint8_t *frame, uint64_t len);
 
 /* I2C: the master reads at address. Answers how many bytes of board->reply it gets. */
-size_t board_read(struct board *board, uint32_t address);
+uint64_t board_read(struct board *board, uint32_t address);
 
 /* A counter of the tally: CHILDBUS_TALLY_SHORT to CHILDBUS_TALLY_ANSWERED. */
 unsigned board_counter(const struct board *board, size_t counter);

@@ -28,9 +28,9 @@ static void fail(const char *what)
 }
 
 /* The bus: a request goes out, a reply comes back in master->reply. Answers its length; 0 is silence. */
-static size_t exchange(struct master *master, uint32_t address, const uint8_t *request, size_t len)
+static uint64_t exchange(struct master *master, uint32_t address, const uint8_t *request, uint64_t len)
 {
-    size_t made = board_frame(master->board, address, request, len);
+    uint64_t made = board_frame(master->board, address, request, len);
     if (master->bus == CHILDBUS_I2C)
         made = board_read(master->board, address);
     memcpy(master->reply, master->board->reply, made);
@@ -39,17 +39,17 @@ static size_t exchange(struct master *master, uint32_t address, const uint8_t *r
 
 /* Sends a command. Answers its status, and the results where results points. Silence and bad replies end the program. */
 static uint32_t command(struct master *master, uint32_t code, uint32_t address, uint32_t a, uint32_t b,
-                        const uint8_t *data, size_t data_len, const uint8_t **results, size_t *results_len)
+                        const uint8_t *data, uint64_t data_len, const uint8_t **results, uint64_t *results_len)
 {
     uint8_t request[CHILDBUS_FRAME_MAX];
-    size_t len, start;
+    uint64_t len, start;
     uint32_t status;
     /* on I2C the reply to set address is read at the new address */
     uint32_t answers_at = master->bus == CHILDBUS_I2C && code == CHILDBUS_CMD_SET_ADDRESS ? a : address;
 
     if (childbus_encode(master->bus, master->longest, code, address, a, b, data, data_len, request, sizeof request, &len) != CHILDBUS_MADE)
         fail("the request can't be made");
-    size_t got = exchange(master, address, request, len);
+    uint64_t got = exchange(master, address, request, len);
     if (answers_at != address) {
         got = board_read(master->board, answers_at);
         memcpy(master->reply, master->board->reply, got);
@@ -63,7 +63,7 @@ static uint32_t command(struct master *master, uint32_t code, uint32_t address, 
 }
 
 /* A command without data that must be OK. */
-static const uint8_t *ask(struct master *master, uint32_t code, uint32_t address, uint32_t a, uint32_t b, size_t *len)
+static const uint8_t *ask(struct master *master, uint32_t code, uint32_t address, uint32_t a, uint32_t b, uint64_t *len)
 {
     static const uint8_t none[1];
     const uint8_t *results;
@@ -76,7 +76,8 @@ static const uint8_t *ask(struct master *master, uint32_t code, uint32_t address
 static unsigned upload(struct master *master, const uint8_t *image, size_t size)
 {
     size_t most = master->longest - (master->bus == CHILDBUS_I2C ? 4 : 6);
-    size_t frames = 0, len;
+    uint64_t len;
+    size_t frames = 0;
     for (size_t at = 0; at < size; frames++) {
         const uint8_t *results;
         size_t n = size - at < most ? size - at : most;
@@ -94,7 +95,8 @@ static void read_back(struct master *master, const uint8_t *image, size_t size)
 {
     size_t most = master->longest - (master->bus == CHILDBUS_I2C ? 3 : 5);
     for (size_t at = 0; at < size;) {
-        size_t n = size - at < most ? size - at : most, len;
+        size_t n = size - at < most ? size - at : most;
+        uint64_t len;
         const uint8_t *results = ask(master, CHILDBUS_CMD_READ, ADDRESS, (uint32_t)at, (uint32_t)n, &len);
         if (len != n || memcmp(results, image + at, n) != 0)
             fail("the flash differs from the image");
@@ -108,7 +110,7 @@ static uint32_t encoded(const struct master *master, uint32_t new_address)
 {
     static const uint8_t none[1];
     uint8_t request[CHILDBUS_FRAME_MAX];
-    size_t len;
+    uint64_t len;
     return childbus_encode(master->bus, master->longest, CHILDBUS_CMD_SET_ADDRESS, ADDRESS, new_address, 0, none, 0,
                            request, sizeof request, &len);
 }
@@ -119,11 +121,11 @@ static void try_reserved(struct master *master)
     static const uint8_t i2c[] = {0x01, 0, 0, 0x40}, rs485[] = {ADDRESS, 0x01, 0, 0, 0x52, 0x78};
     const bool on_i2c = master->bus == CHILDBUS_I2C;
     uint32_t status;
-    size_t start, len;
+    uint64_t start, len;
 
     if (encoded(master, 0) != CHILDBUS_ARGUMENT_OUT_OF_RANGE || encoded(master, on_i2c ? 8 : 1) != CHILDBUS_MADE)
         fail("the encoder takes reserved addresses, or refuses others");
-    size_t got = exchange(master, ADDRESS, on_i2c ? i2c : rs485, on_i2c ? sizeof i2c : sizeof rs485);
+    uint64_t got = exchange(master, ADDRESS, on_i2c ? i2c : rs485, on_i2c ? sizeof i2c : sizeof rs485);
     if (childbus_decode(master->bus, CHILDBUS_CMD_SET_ADDRESS, ADDRESS, 0, master->reply, got, &status, &start, &len) !=
             CHILDBUS_MADE || status != CHILDBUS_INVALID_ARGUMENTS)
         fail("the board took a reserved address");
@@ -139,7 +141,7 @@ static void leave_application(struct master *master)
     const uint8_t *reply = on_i2c ? i2c : rs485;
     uint8_t request[CHILDBUS_FRAME_MAX];
     uint32_t status, known_major, known_minor;
-    size_t start, len;
+    uint64_t start, len;
 
     if (childbus_decode(master->bus, CHILDBUS_CMD_VERSION, ADDRESS, 0, reply, on_i2c ? sizeof i2c : sizeof rs485, &status, &start, &len) !=
             CHILDBUS_MADE || status != CHILDBUS_OK)
@@ -157,7 +159,7 @@ static void leave_application(struct master *master)
 }
 
 /* A frame that gets no reply, on RS485, and the board's number for it. */
-static void no_reply(struct master *master, const char *name, const uint8_t *frame, size_t len, uint32_t number)
+static void no_reply(struct master *master, const char *name, const uint8_t *frame, uint64_t len, uint32_t number)
 {
     if (exchange(master, CHILDBUS_GENERAL_CALL, frame, len) != 0 || master->board->number != number)
         fail("another silence was expected");
@@ -170,7 +172,7 @@ static void show_silences(struct master *master)
 {
     static const uint8_t none[1];
     uint8_t frame[BOARD_LONGEST + 1] = {0}, other[CHILDBUS_FRAME_MAX];
-    size_t len, other_len;
+    uint64_t len, other_len;
 
     if (childbus_encode(master->bus, master->longest, CHILDBUS_CMD_VERSION, ADDRESS, 0, 0, none, 0, frame, sizeof frame,
                         &len) != CHILDBUS_MADE ||
@@ -196,7 +198,7 @@ static void run_master(struct board *board, uint32_t bus, uint32_t page, const u
     struct master master = {.board = board, .bus = bus, .longest = CHILDBUS_FRAME_MIN};
     uint8_t request[CHILDBUS_FRAME_MAX];
     uint32_t major, minor;
-    size_t len;
+    uint64_t len;
 
     board_power_up(board, bus, page);
     printf("%s, pages of %u bytes\n", bus == CHILDBUS_I2C ? "I2C" : "RS485", board_page(board));

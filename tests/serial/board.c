@@ -59,7 +59,7 @@ static void log_tally(void)
 static void serve(int line, const uint8_t *frame, size_t len)
 {
     uint8_t reply[CHILDBUS_FRAME_MAX];
-    size_t made;
+    uint64_t made;
     uint32_t number = childbus_receive_tally(profile, sizeof profile, state, sizeof state, 0, frame, len, flash, sizeof flash,
                                              reply, sizeof reply, tally, sizeof tally, &made);
     if (number != CHILDBUS_MADE && !childbus_silent(number)) {
@@ -72,7 +72,7 @@ static void serve(int line, const uint8_t *frame, size_t len)
     else
         fprintf(stderr, " silent %u", (unsigned)number);
     fprintf(stderr, "\n");
-    for (size_t sent = 0; sent < made;) {
+    for (uint64_t sent = 0; sent < made;) {
         ssize_t n = write(line, reply + sent, made - sent);
         if (n < 0)
             fail("write");
