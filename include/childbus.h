@@ -7,7 +7,8 @@
  * Buffers
  *   A buffer is a pointer and a length in bytes. Pointers are not NULL, not even with length 0. The buffers of one call
  *   and the places of its single results do not overlap. Only buffers without const are written. Profile, state and
- *   tally have a layout of their own, below; their numbers are little-endian. A buffer's alignment does not matter.
+ *   tally have a layout of their own, below; their numbers are little-endian. A buffer's alignment does not matter (on a
+ *   Cortex-M3 or M4 as long as unaligned accesses don't fault: CCR.UNALIGN_TRP is 0, as after reset).
  *
  * Widths
  *   Lengths, places and *made, *start and *len have 64 bits on every machine, those with pointers of 32 bits too; every
@@ -189,7 +190,7 @@ uint32_t childbus_fresh(uint8_t *state, uint64_t state_len);
  *   state, state_len      the state, changed in place
  *   address               I2C: the 7-bit address of the write; 128 and above are foreign, 0 is the general call.
  *                         RS485: not looked at
- *   frame, frame_len      the frame, of any length
+ *   frame, frame_len      the frame, of any length; of a longer one than M the first M + 1 bytes are enough
  *   flash, flash_len      the lent flash, at least O + S bytes. Only O .. O + S - 1 can change
  *   out, out_len          room for the reply, at least M bytes, also where nothing is sent
  *   made                  the reply's length with 0, else 0
