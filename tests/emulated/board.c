@@ -182,7 +182,7 @@ static void stop(uint32_t number)
         ;
 }
 
-/* Receives until silence. A byte with a UART error is taken too: the check sum is wrong then, and the library drops the frame. */
+/* Receives until silence. A byte with a UART error is taken too: whether the frame is good is for its check sum to say. */
 static uint32_t receive_frame(void)
 {
     uint32_t len = 0, ticks = 0;
