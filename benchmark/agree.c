@@ -1,123 +1,43 @@
-/* Compares the library and the plain C call by call: numbers, outputs with their untouched rest, states, flash, tallies. */
+/*
+ * Compares the library with each build of the plain C call by call: numbers, outputs with their untouched rest, states, flash, tallies.
+ * Bytes of the state that mean nothing are other than 0, and must stay as they are.
+ */
 #include <stdio.h>
 #include <stdlib.h>
 #include <string.h>
 
 #include "jobs.h"
 
-static uint32_t get32(const uint8_t *b)
-{
-    return b[0] | (uint32_t)b[1] << 8 | (uint32_t)b[2] << 16 | (uint32_t)b[3] << 24;
-}
+/* A build of the plain C. */
+struct build {
+    const char *name;
+    enum side side;
+    __typeof__(plain_crc8) *crc8;
+    __typeof__(plain_crc16) *crc16;
+    __typeof__(plain_fresh) *fresh;
+    __typeof__(plain_receive) *receive;
+    __typeof__(plain_receive_tally) *receive_tally;
+    __typeof__(plain_read) *read;
+    __typeof__(plain_encode) *encode;
+    __typeof__(plain_general) *general;
+    __typeof__(plain_decode) *decode;
+    __typeof__(plain_two_reads) *two_reads;
+    __typeof__(plain_version) *version;
+};
 
-static void put32(uint8_t *out, uint32_t value)
-{
-    for (int i = 0; i < 4; i++)
-        out[i] = (uint8_t)(value >> 8 * i);
-}
+#define BUILD(c, side)                                                                                                    \
+    {#c,       side,       c##_crc8,    c##_crc16,  c##_fresh,     c##_receive, c##_receive_tally,                        \
+     c##_read, c##_encode, c##_general, c##_decode, c##_two_reads, c##_version}
 
-static size_t least(size_t a, size_t b)
-{
-    return a < b ? a : b;
-}
+static const struct build builds[] = {BUILD(plain, PLAIN), BUILD(plain256, PLAIN_256)};
 
-/* The same state, bytes without meaning aside. */
-static bool same_state(const uint8_t *b, const struct plain_state *s)
-{
-    return b[CHILDBUS_STATE_ADDRESS_KIND] == s->has_address &&
-           (!s->has_address || b[CHILDBUS_STATE_OWN_ADDRESS] == s->address) &&
-           b[CHILDBUS_STATE_RUNNING] == s->running && get32(b + CHILDBUS_STATE_NEXT) == s->next &&
-           get32(b + CHILDBUS_STATE_WAITING_COUNT) == s->w && get32(b + CHILDBUS_STATE_ERASE_COUNT) == s->count &&
-           get32(b + CHILDBUS_STATE_REPLY_LENGTH) == s->reply_len &&
-           memcmp(b + CHILDBUS_STATE_WAITING, s->waiting, least(s->w, sizeof s->waiting)) == 0 &&
-           memcmp(b + CHILDBUS_STATE_REPLY, s->reply, least(s->reply_len, sizeof s->reply)) == 0;
-}
-
-/* The same tally. */
-static bool same_tally(const uint8_t *b, const struct plain_tally *tally)
-{
-    for (size_t i = 0; i < 5; i++)
-        if ((b[2 * i] | b[2 * i + 1] << 8) != (i < 4 ? tally->dropped[i] : tally->answered))
-            return false;
-    return true;
-}
-
-/* The benchmark's inputs. */
-
-static bool job_agrees(const struct job *job)
-{
-    make_inputs(job);
-    set_up(job, LIBRARY);
-    set_up(job, PLAIN);
-    uint8_t *out = boards.out[LIBRARY];
-    uint8_t *plain_out = boards.out[PLAIN];
-    for (size_t i = 0; i < input_count; i++) {
-        const struct input *in = &inputs[i];
-        const uint8_t *bytes = pool + in->at;
-        uint32_t number = 0, plain_number = 0, status = 0, plain_status = 0;
-        uint32_t expected = job->kind == DROPPED ? 15 + (uint32_t)i : 0;
-        size_t made = 0, plain_made = 0, start = 0, plain_start = 0;
-        switch (job->kind) {
-        case UPLOAD_FIRST:
-        case UPLOAD_REPEATED:
-        case READ_BACK:
-            number = childbus_receive(boards.profile, sizeof boards.profile, boards.state, sizeof boards.state, ADDRESS,
-                                      bytes, in->len, boards.flash[LIBRARY], FLASH, out, job->frame, &made);
-            plain_number = plain_receive(&boards.plain_profile, &boards.plain_state, ADDRESS, bytes, in->len,
-                                         boards.flash[PLAIN], FLASH, plain_out, job->frame, &plain_made);
-            break;
-        case UPLOAD_TALLY:
-        case DROPPED:
-            number = childbus_receive_tally(boards.profile, sizeof boards.profile, boards.state, sizeof boards.state,
-                                            ADDRESS, bytes, in->len, boards.flash[LIBRARY], FLASH, out, job->frame,
-                                            boards.tally, sizeof boards.tally, &made);
-            plain_number = plain_receive_tally(&boards.plain_profile, &boards.plain_state, ADDRESS, bytes, in->len,
-                                               boards.flash[PLAIN], FLASH, plain_out, job->frame, &boards.plain_tally,
-                                               &plain_made);
-            break;
-        case READ_REPLY:
-            number = childbus_read(boards.profile, sizeof boards.profile, boards.state, sizeof boards.state, ADDRESS,
-                                   boards.flash[LIBRARY], FLASH, out, job->frame, &made);
-            plain_number = plain_read(&boards.plain_profile, &boards.plain_state, ADDRESS, FLASH, plain_out, job->frame,
-                                      &plain_made);
-            break;
-        case ENCODE_WRITE:
-        case ENCODE_SHORT:
-            number = childbus_encode(job->bus, job->frame, in->code, ADDRESS, in->a, in->b, bytes, in->len, out,
-                                     job->frame, &made);
-            plain_number = plain_encode(job->bus, job->frame, in->code, ADDRESS, in->a, in->b, bytes, in->len,
-                                        plain_out, job->frame, &plain_made);
-            break;
-        case DECODE_FULL:
-        case DECODE_SHORT:
-            number = childbus_decode(job->bus, in->code, ADDRESS, in->b, bytes, in->len, &status, &start, &made);
-            plain_number = plain_decode(job->bus, in->code, ADDRESS, in->b, bytes, in->len, &plain_status,
-                                        &plain_start, &plain_made);
-            break;
-        case TWO_READS:
-            /* 2 is the answer that is measured: the first read is damaged */
-            number = childbus_two_reads(in->code, in->b, pool + inputs[1].at, inputs[1].len, pool + inputs[0].at,
-                                        inputs[0].len, &start, &made) ^ 2;
-            plain_number = plain_two_reads(in->code, in->b, pool + inputs[1].at, inputs[1].len, pool + inputs[0].at,
-                                           inputs[0].len, &plain_start, &plain_made) ^ 2;
-            break;
-        }
-        if (number != expected || number != plain_number || made != plain_made || status != plain_status ||
-            start != plain_start || memcmp(out, plain_out, sizeof boards.out[0]) != 0 ||
-            !same_state(boards.state, &boards.plain_state) || !same_tally(boards.tally, &boards.plain_tally) ||
-            memcmp(boards.flash[LIBRARY], boards.flash[PLAIN], FLASH) != 0) {
-            printf("%s, bus %u, frames of %u, pages of %u: the sides differ at call %zu (library %u, plain %u)\n",
-                   kind_name(job->kind), (unsigned)job->bus, (unsigned)job->frame, (unsigned)job->page, i, (unsigned)number,
-                   (unsigned)plain_number);
-            return false;
-        }
-    }
-    return true;
-}
+/* The one that is compared. */
+static const struct build *plain;
 
 /* Random inputs. Most are nearly right, so that every rule and every refusal is met. */
 
-static uint64_t random_state = 88172645463325252u;
+static const uint64_t seed = 88172645463325252u;
+static uint64_t random_state;
 
 static uint32_t any(void)
 {
@@ -136,6 +56,155 @@ static bool one_in(uint32_t n)
 {
     return below(n) == 0;
 }
+
+static void put32(uint8_t *out, uint32_t value)
+{
+    for (int i = 0; i < 4; i++)
+        out[i] = (uint8_t)(value >> 8 * i);
+}
+
+static size_t least(size_t a, size_t b)
+{
+    return a < b ? a : b;
+}
+
+/* Lays a state over its bytes. Those that mean nothing stay. */
+static void lay_state(uint8_t *b, const struct plain_state *s)
+{
+    b[CHILDBUS_STATE_ADDRESS_KIND] = s->has_address;
+    if (s->has_address)
+        b[CHILDBUS_STATE_OWN_ADDRESS] = s->address;
+    b[CHILDBUS_STATE_RUNNING] = s->running;
+    put32(b + CHILDBUS_STATE_NEXT, s->next);
+    put32(b + CHILDBUS_STATE_WAITING_COUNT, s->w);
+    put32(b + CHILDBUS_STATE_ERASE_COUNT, s->count);
+    put32(b + CHILDBUS_STATE_REPLY_LENGTH, s->reply_len);
+    memcpy(b + CHILDBUS_STATE_WAITING, s->waiting, least(s->w, sizeof s->waiting));
+    memcpy(b + CHILDBUS_STATE_REPLY, s->reply, least(s->reply_len, sizeof s->reply));
+}
+
+/* Whether a byte of the state's buffer means nothing in this state. */
+static bool means_nothing(const struct plain_state *s, size_t at)
+{
+    if (at == CHILDBUS_STATE_OWN_ADDRESS)
+        return !s->has_address;
+    if (at < CHILDBUS_STATE_WAITING)
+        return at == 3;
+    if (at < CHILDBUS_STATE_REPLY)
+        return at - CHILDBUS_STATE_WAITING >= s->w;
+    return at - CHILDBUS_STATE_REPLY >= s->reply_len || at >= CHILDBUS_STATE_BYTES;
+}
+
+/* Any bytes but 0 where the buffer means nothing. */
+static void fill_state(uint8_t *b, size_t len, const struct plain_state *s)
+{
+    for (size_t i = 0; i < len; i++)
+        if (means_nothing(s, i))
+            b[i] = (uint8_t)(1 + below(255));
+}
+
+/* The buffer is what it was before the call, with the plain C's state (none: no call may change it) laid over it. */
+static bool same_state(const uint8_t *b, const uint8_t *before, size_t len, const struct plain_state *s)
+{
+    uint8_t due[CHILDBUS_STATE_BYTES + 16];
+    memcpy(due, before, len);
+    if (s != NULL)
+        lay_state(due, s);
+    for (size_t i = 0; i < len; i++)
+        if (b[i] != due[i]) {
+            printf("state byte %zu%s: expected %02x, found %02x\n", i, s != NULL && means_nothing(s, i) ? ", which means nothing" : "",
+                   due[i], b[i]);
+            return false;
+        }
+    return true;
+}
+
+/* The same tally. */
+static bool same_tally(const uint8_t *b, const struct plain_tally *tally)
+{
+    for (size_t i = 0; i < 5; i++)
+        if ((b[2 * i] | b[2 * i + 1] << 8) != (i < 4 ? tally->dropped[i] : tally->answered))
+            return false;
+    return true;
+}
+
+/* The benchmark's inputs. */
+
+static bool job_agrees(const struct job *job)
+{
+    uint8_t before[CHILDBUS_STATE_BYTES];
+    make_inputs(job);
+    set_up(job, LIBRARY);
+    set_up(job, plain->side);
+    uint8_t *out = boards.out[LIBRARY];
+    uint8_t *plain_out = boards.out[PLAIN];
+    for (size_t i = 0; i < input_count; i++) {
+        const struct input *in = &inputs[i];
+        const uint8_t *bytes = pool + in->at;
+        uint32_t number = 0, plain_number = 0, status = 0, plain_status = 0;
+        uint32_t expected = job->kind == DROPPED ? 15 + (uint32_t)i : 0;
+        size_t made = 0, plain_made = 0, start = 0, plain_start = 0;
+        fill_state(boards.state, sizeof boards.state, &boards.plain_state);
+        memcpy(before, boards.state, sizeof before);
+        switch (job->kind) {
+        case UPLOAD_FIRST:
+        case UPLOAD_REPEATED:
+        case READ_BACK:
+            number = childbus_receive(boards.profile, sizeof boards.profile, boards.state, sizeof boards.state, ADDRESS,
+                                      bytes, in->len, boards.flash[LIBRARY], FLASH, out, job->frame, &made);
+            plain_number = plain->receive(&boards.plain_profile, &boards.plain_state, ADDRESS, bytes, in->len,
+                                          boards.flash[PLAIN], FLASH, plain_out, job->frame, &plain_made);
+            break;
+        case UPLOAD_TALLY:
+        case DROPPED:
+            number = childbus_receive_tally(boards.profile, sizeof boards.profile, boards.state, sizeof boards.state,
+                                            ADDRESS, bytes, in->len, boards.flash[LIBRARY], FLASH, out, job->frame,
+                                            boards.tally, sizeof boards.tally, &made);
+            plain_number = plain->receive_tally(&boards.plain_profile, &boards.plain_state, ADDRESS, bytes, in->len,
+                                                boards.flash[PLAIN], FLASH, plain_out, job->frame, &boards.plain_tally,
+                                                &plain_made);
+            break;
+        case READ_REPLY:
+            number = childbus_read(boards.profile, sizeof boards.profile, boards.state, sizeof boards.state, ADDRESS,
+                                   boards.flash[LIBRARY], FLASH, out, job->frame, &made);
+            plain_number = plain->read(&boards.plain_profile, &boards.plain_state, ADDRESS, FLASH, plain_out, job->frame,
+                                       &plain_made);
+            break;
+        case ENCODE_WRITE:
+        case ENCODE_SHORT:
+            number = childbus_encode(job->bus, job->frame, in->code, ADDRESS, in->a, in->b, bytes, in->len, out,
+                                     job->frame, &made);
+            plain_number = plain->encode(job->bus, job->frame, in->code, ADDRESS, in->a, in->b, bytes, in->len,
+                                         plain_out, job->frame, &plain_made);
+            break;
+        case DECODE_FULL:
+        case DECODE_SHORT:
+            number = childbus_decode(job->bus, in->code, ADDRESS, in->b, bytes, in->len, &status, &start, &made);
+            plain_number = plain->decode(job->bus, in->code, ADDRESS, in->b, bytes, in->len, &plain_status,
+                                         &plain_start, &plain_made);
+            break;
+        case TWO_READS:
+            /* 2 is the answer that is measured: the first read is damaged */
+            number = childbus_two_reads(in->code, in->b, pool + inputs[1].at, inputs[1].len, pool + inputs[0].at,
+                                        inputs[0].len, &start, &made) ^ 2;
+            plain_number = plain->two_reads(in->code, in->b, pool + inputs[1].at, inputs[1].len, pool + inputs[0].at,
+                                            inputs[0].len, &plain_start, &plain_made) ^ 2;
+            break;
+        }
+        if (number != expected || number != plain_number || made != plain_made || status != plain_status ||
+            start != plain_start || memcmp(out, plain_out, sizeof boards.out[0]) != 0 ||
+            !same_state(boards.state, before, sizeof before, &boards.plain_state) ||
+            !same_tally(boards.tally, &boards.plain_tally) || memcmp(boards.flash[LIBRARY], boards.flash[PLAIN], FLASH) != 0) {
+            printf("%s, bus %u, frames of %u, pages of %u: the sides differ at call %zu (library %u, %s %u, expected %u)\n",
+                   kind_name(job->kind), (unsigned)job->bus, (unsigned)job->frame, (unsigned)job->page, i, (unsigned)number,
+                   plain->name, (unsigned)plain_number, (unsigned)expected);
+            return false;
+        }
+    }
+    return true;
+}
+
+/* Random calls. */
 
 enum { SMALL_FLASH = 512, PAST_STATE = 4 };
 
@@ -214,7 +283,7 @@ static void random_profile(void)
 static void random_state_of(void)
 {
     struct plain_state *s = &t.plain_state;
-    plain_fresh(s);
+    plain->fresh(s);
     if (one_in(2)) {
         s->has_address = one_in(2);
         s->address = (uint8_t)(one_in(4) ? any() : 8 + below(3));
@@ -231,18 +300,9 @@ static void random_state_of(void)
         if (one_in(40))
             *(one_in(2) ? &s->next : one_in(2) ? &s->w : &s->count) = any();
     }
-    for (size_t i = 0; i < sizeof t.state; i++)
-        t.state[i] = (uint8_t)any();
-    t.state[CHILDBUS_STATE_ADDRESS_KIND] = s->has_address;
-    t.state[CHILDBUS_STATE_OWN_ADDRESS] = s->address;
-    t.state[CHILDBUS_STATE_RUNNING] = s->running;
-    put32(t.state + CHILDBUS_STATE_NEXT, s->next);
-    put32(t.state + CHILDBUS_STATE_WAITING_COUNT, s->w);
-    put32(t.state + CHILDBUS_STATE_ERASE_COUNT, s->count);
-    put32(t.state + CHILDBUS_STATE_REPLY_LENGTH, s->reply_len);
-    memcpy(t.state + CHILDBUS_STATE_WAITING, s->waiting, sizeof s->waiting);
-    memcpy(t.state + CHILDBUS_STATE_REPLY, s->reply, PLAIN_FRAME_MAX);
-    t.state_len = CHILDBUS_STATE_BYTES;
+    lay_state(t.state, s);
+    fill_state(t.state, sizeof t.state, s);
+    t.state_len = CHILDBUS_STATE_BYTES + below(PAST_STATE + 1);
 }
 
 /* Counters of which most are near their ends; now and then no tally, as the buffer is too short. */
@@ -317,7 +377,7 @@ static void random_frame(void)
 
 static bool differ(const char *what, size_t turn)
 {
-    printf("random %s: the sides differ at turn %zu\n", what, turn);
+    printf("random %s: library and %s differ at turn %zu\n", what, plain->name, turn);
     return false;
 }
 
@@ -343,13 +403,15 @@ static bool board_turn(size_t turn)
             case 1: t.state[CHILDBUS_STATE_RUNNING] = (uint8_t)(2 + below(254)); break;
             default: t.state_len = below(CHILDBUS_STATE_BYTES); break;
             }
+        if (one_in(4))
+            fill_state(t.state, sizeof t.state, &t.plain_state);
         bool bad_state = t.state_len < CHILDBUS_STATE_BYTES || t.state[CHILDBUS_STATE_ADDRESS_KIND] > 1 ||
                          t.state[CHILDBUS_STATE_RUNNING] > 1;
         memcpy(t.before, t.state, sizeof t.state);
 
         /* the plain C has no byte buffers: a state that has no struct is one with a next that is out of range */
         struct plain_state bad;
-        plain_fresh(&bad);
+        plain->fresh(&bad);
         bad.next = 4294967295u;
         struct plain_state *s = bad_state ? &bad : &t.plain_state;
         uint32_t address = one_in(12) ? below(140) : t.plain_state.has_address ? t.plain_state.address : 8 + below(8);
@@ -366,22 +428,22 @@ static bool board_turn(size_t turn)
             number = childbus_read(t.profile, t.profile_len, t.state, t.state_len, address, t.flash, t.flash_len,
                                    t.out, t.out_len, &made);
             if (whole)
-                plain_number = plain_read(&t.plain_profile, s, address, t.flash_len, t.plain_out, t.out_len, &plain_made);
+                plain_number = plain->read(&t.plain_profile, s, address, t.flash_len, t.plain_out, t.out_len, &plain_made);
         } else if (one_in(2)) {
             random_frame();
             number = childbus_receive_tally(t.profile, t.profile_len, t.state, t.state_len, address, t.bytes, t.len,
                                             t.flash, t.flash_len, t.out, t.out_len, t.tally, t.tally_len, &made);
             struct plain_tally unused = t.plain_tally;
             if (whole)
-                plain_number = plain_receive_tally(&t.plain_profile, s, address, t.bytes, t.len, t.plain_flash, t.flash_len,
-                                                   t.plain_out, t.out_len, no_tally ? &unused : &t.plain_tally, &plain_made);
+                plain_number = plain->receive_tally(&t.plain_profile, s, address, t.bytes, t.len, t.plain_flash, t.flash_len,
+                                                    t.plain_out, t.out_len, no_tally ? &unused : &t.plain_tally, &plain_made);
         } else {
             random_frame();
             number = childbus_receive(t.profile, t.profile_len, t.state, t.state_len, address, t.bytes, t.len, t.flash,
                                       t.flash_len, t.out, t.out_len, &made);
             if (whole)
-                plain_number = plain_receive(&t.plain_profile, s, address, t.bytes, t.len, t.plain_flash, t.flash_len,
-                                             t.plain_out, t.out_len, &plain_made);
+                plain_number = plain->receive(&t.plain_profile, s, address, t.bytes, t.len, t.plain_flash, t.flash_len,
+                                              t.plain_out, t.out_len, &plain_made);
         }
         if (number != plain_number || made != plain_made || memcmp(t.out, t.plain_out, sizeof t.out) != 0 ||
             memcmp(t.flash, t.plain_flash, SMALL_FLASH) != 0)
@@ -389,9 +451,7 @@ static bool board_turn(size_t turn)
         if (!same_tally(t.tally, &t.plain_tally) ||
             memcmp(tally_before + CHILDBUS_TALLY_BYTES, t.tally + CHILDBUS_TALLY_BYTES, 2) != 0)
             return differ("tally", turn);
-        if (number > 1 ? memcmp(t.before, t.state, sizeof t.state) != 0
-                       : !same_state(t.state, &t.plain_state) ||
-                             memcmp(t.before + CHILDBUS_STATE_BYTES, t.state + CHILDBUS_STATE_BYTES, PAST_STATE) != 0)
+        if (!same_state(t.state, t.before, sizeof t.state, number > 1 ? NULL : &t.plain_state))
             return differ("state", turn);
     }
     return true;
@@ -417,11 +477,11 @@ static bool master_turn(size_t turn)
         uint32_t reset = one_in(2) ? 0 : any();
         t.out_len = below(6);
         number = childbus_general(bus, longest, reset, t.out, t.out_len, &made);
-        plain_number = plain_general(bus, longest, reset, t.plain_out, t.out_len, &plain_made);
+        plain_number = plain->general(bus, longest, reset, t.plain_out, t.out_len, &plain_made);
     } else {
         number = childbus_encode(bus, longest, code, destination, a, b, t.bytes, len, t.out, t.out_len, &made);
-        plain_number = plain_encode(bus, longest, code, destination, a, b, t.bytes, len, t.plain_out, t.out_len,
-                                    &plain_made);
+        plain_number = plain->encode(bus, longest, code, destination, a, b, t.bytes, len, t.plain_out, t.out_len,
+                                     &plain_made);
     }
     if (number != plain_number || made != plain_made || memcmp(t.out, t.plain_out, sizeof t.out) != 0)
         return differ("request", turn);
@@ -453,11 +513,11 @@ static bool master_turn(size_t turn)
     uint32_t status = 77, plain_status = 77;
     size_t start = 77, plain_start = 77;
     number = childbus_decode(bus, code, r[0], b, r, at, &status, &start, &made);
-    plain_number = plain_decode(bus, code, r[0], b, r, at, &plain_status, &plain_start, &plain_made);
+    plain_number = plain->decode(bus, code, r[0], b, r, at, &plain_status, &plain_start, &plain_made);
     if (number != plain_number || status != plain_status || start != plain_start || made != plain_made)
         return differ("reply", turn);
     number = childbus_decode(bus, code, 8, b, r, at, &status, &start, &made);
-    plain_number = plain_decode(bus, code, 8, b, r, at, &plain_status, &plain_start, &plain_made);
+    plain_number = plain->decode(bus, code, 8, b, r, at, &plain_status, &plain_start, &plain_made);
     if (number != plain_number || status != plain_status || start != plain_start || made != plain_made)
         return differ("reply", turn);
 
@@ -465,30 +525,50 @@ static bool master_turn(size_t turn)
     if (at > 0 && one_in(2))
         r[below((uint32_t)at)] ^= 1;
     number = childbus_two_reads(code, b, r, at, t.out, least(at, sizeof t.out), &start, &made);
-    plain_number = plain_two_reads(code, b, r, at, t.out, least(at, sizeof t.out), &plain_start, &plain_made);
+    plain_number = plain->two_reads(code, b, r, at, t.out, least(at, sizeof t.out), &plain_start, &plain_made);
     if (number != plain_number || made != plain_made || (number != 0 && start != plain_start))
         return differ("reply read twice", turn);
 
     uint32_t major = 77, minor = 77, plain_major = 77, plain_minor = 77;
     uint32_t given = one_in(10) ? any() : below(4), given_minor = one_in(10) ? any() : below(5);
     number = childbus_version(given, given_minor, &major, &minor);
-    plain_number = plain_version(given, given_minor, &plain_major, &plain_minor);
+    plain_number = plain->version(given, given_minor, &plain_major, &plain_minor);
     if (number != plain_number || major != plain_major || minor != plain_minor)
         return differ("version", turn);
+    return true;
+}
+
+/* The check sums of both builds: each register of CRC-8 with each byte, each low byte of CRC-16's register with each byte. */
+static bool sums_agree(void)
+{
+    for (uint32_t pair = 0; pair < 65536; pair++) {
+        uint8_t bytes[2] = {(uint8_t)pair, (uint8_t)(pair >> 8)};
+        if (plain->crc8(bytes, 2) != plain_crc8(bytes, 2) || plain->crc16(bytes, 2) != plain_crc16(bytes, 2)) {
+            printf("check sums of %02x %02x: plain %02x and %04x, %s %02x and %04x\n", bytes[0], bytes[1], plain_crc8(bytes, 2),
+                   plain_crc16(bytes, 2), plain->name, plain->crc8(bytes, 2), plain->crc16(bytes, 2));
+            return false;
+        }
+    }
     return true;
 }
 
 bool agree(void)
 {
     enum { TURNS = 50000 };
-    for (size_t i = 0; i < job_count; i++)
-        if (!job_agrees(&job_list[i]))
+    for (size_t k = 0; k < sizeof builds / sizeof builds[0]; k++) {
+        plain = &builds[k];
+        random_state = seed;
+        if (!sums_agree())
             return false;
-    for (size_t turn = 0; turn < TURNS; turn++)
-        if (!board_turn(turn) || !master_turn(turn))
-            return false;
-    printf("Both sides agree on the inputs of all %zu jobs (after every call: number, output, state, flash, tally) and on "
-           "%d random calls, refused ones among them.\n",
+        for (size_t i = 0; i < job_count; i++)
+            if (!job_agrees(&job_list[i]))
+                return false;
+        for (size_t turn = 0; turn < TURNS; turn++)
+            if (!board_turn(turn) || !master_turn(turn))
+                return false;
+    }
+    printf("The library agrees with both builds of the C on the inputs of all %zu jobs (after every call: number, output, every "
+           "byte of the state, flash, tally) and on %d random calls, refused ones among them.\n",
            job_count, TURNS * 17);
     return true;
 }

@@ -2,7 +2,7 @@
  * The benchmark's program.
  *   bench agree   compares the library and the plain C on the benchmark's inputs and on random ones
  *   bench count   runs each job once on each side, for callgrind: one line for each time `measured` is called
- *   bench time    runs the main jobs many times, the two sides in turn: shortest and middle time of each
+ *   bench time    runs the jobs many times, library and plain C in turn: shortest and middle time of each
  */
 #define _POSIX_C_SOURCE 199309L
 #include <stdio.h>
@@ -12,7 +12,7 @@
 
 #include "jobs.h"
 
-static const char *const side_names[SIDES] = {"library", "plain"};
+static const char *const side_names[SIDES] = {"library", "plain", "plain256"};
 
 /* Callgrind counts what happens in here, and nothing else (--toggle-collect=measured). */
 __attribute__((noinline)) void measured(const struct job *job, enum side side)
@@ -55,13 +55,13 @@ static double now(void)
 
 static void time_jobs(void)
 {
-    enum { TURNS = 41 };
-    static double ns[SIDES][TURNS];
+    enum { TURNS = 41, TIMED = 2 }; /* LIBRARY and PLAIN */
+    static double ns[TIMED][TURNS];
     for (size_t i = 0; i < job_count; i++) {
         const struct job *job = &job_list[i];
         make_inputs(job);
         for (int turn = -2; turn < TURNS; turn++) { /* two turns to warm up */
-            for (int k = 0; k < SIDES; k++) {
+            for (int k = 0; k < TIMED; k++) {
                 enum side side = (k + turn) & 1 ? PLAIN : LIBRARY; /* each goes first in half of the turns */
                 set_up(job, side);
                 double start = now();
@@ -71,7 +71,7 @@ static void time_jobs(void)
                     ns[side][turn] = took;
             }
         }
-        for (enum side side = LIBRARY; side < SIDES; side++) {
+        for (enum side side = LIBRARY; side < (enum side)TIMED; side++) {
             qsort(ns[side], TURNS, sizeof ns[side][0], ascending);
             print_job(job, side);
             printf(" %.0f %.0f\n", ns[side][0], ns[side][TURNS / 2]);

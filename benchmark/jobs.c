@@ -1,4 +1,4 @@
-/* The jobs: their inputs, and the loops that are measured. Both sides have the same loops. */
+/* The jobs: their inputs, and the loops that are measured. All sides have the same loops. */
 #include "jobs.h"
 
 #include <stdio.h>
@@ -224,18 +224,6 @@ static size_t board_library(const struct job *job)
     return sum;
 }
 
-static size_t board_plain(const struct job *job)
-{
-    size_t sum = 0;
-    for (size_t i = 0; i < input_count; i++) {
-        size_t made;
-        sum += plain_receive(&boards.plain_profile, &boards.plain_state, ADDRESS, pool + inputs[i].at, inputs[i].len,
-                             boards.flash[PLAIN], FLASH, boards.out[PLAIN], job->frame, &made);
-        sum += made;
-    }
-    return sum;
-}
-
 /* The call number i of a job by the calls that count: its frame. */
 static const struct input *counted_input(const struct job *job, size_t i)
 {
@@ -261,19 +249,6 @@ static size_t tally_library(const struct job *job)
     return sum;
 }
 
-static size_t tally_plain(const struct job *job)
-{
-    size_t sum = 0;
-    for (size_t i = 0; i < counted_calls(job); i++) {
-        const struct input *in = counted_input(job, i);
-        size_t made;
-        sum += plain_receive_tally(&boards.plain_profile, &boards.plain_state, ADDRESS, pool + in->at, in->len,
-                                   boards.flash[PLAIN], FLASH, boards.out[PLAIN], job->frame, &boards.plain_tally, &made);
-        sum += made;
-    }
-    return sum;
-}
-
 static size_t read_library(const struct job *job)
 {
     size_t sum = 0;
@@ -286,18 +261,6 @@ static size_t read_library(const struct job *job)
     return sum;
 }
 
-static size_t read_plain(const struct job *job)
-{
-    size_t sum = 0;
-    for (uint32_t i = 0; i < job->amount; i++) {
-        size_t made;
-        sum += plain_read(&boards.plain_profile, &boards.plain_state, ADDRESS, FLASH, boards.out[PLAIN], job->frame,
-                          &made);
-        sum += made;
-    }
-    return sum;
-}
-
 static size_t encode_library(const struct job *job)
 {
     size_t sum = 0;
@@ -305,18 +268,6 @@ static size_t encode_library(const struct job *job)
         size_t made;
         sum += childbus_encode(job->bus, job->frame, inputs[i].code, ADDRESS, inputs[i].a, inputs[i].b,
                                pool + inputs[i].at, inputs[i].len, boards.out[LIBRARY], job->frame, &made);
-        sum += made;
-    }
-    return sum;
-}
-
-static size_t encode_plain(const struct job *job)
-{
-    size_t sum = 0;
-    for (size_t i = 0; i < input_count; i++) {
-        size_t made;
-        sum += plain_encode(job->bus, job->frame, inputs[i].code, ADDRESS, inputs[i].a, inputs[i].b,
-                            pool + inputs[i].at, inputs[i].len, boards.out[PLAIN], job->frame, &made);
         sum += made;
     }
     return sum;
@@ -335,19 +286,6 @@ static size_t decode_library(const struct job *job)
     return sum;
 }
 
-static size_t decode_plain(const struct job *job)
-{
-    size_t sum = 0;
-    for (size_t i = 0; i < input_count; i++) {
-        uint32_t status;
-        size_t start, len;
-        sum += plain_decode(job->bus, inputs[i].code, ADDRESS, inputs[i].b, pool + inputs[i].at, inputs[i].len,
-                            &status, &start, &len);
-        sum += status + start + len;
-    }
-    return sum;
-}
-
 static size_t two_library(const struct job *job)
 {
     size_t sum = 0;
@@ -360,50 +298,48 @@ static size_t two_library(const struct job *job)
     return sum;
 }
 
-static size_t two_plain(const struct job *job)
-{
-    size_t sum = 0;
-    for (uint32_t i = 0; i < job->amount; i++) {
-        size_t start, len;
-        sum += plain_two_reads(inputs[0].code, inputs[0].b, pool + inputs[1].at, inputs[1].len, pool + inputs[0].at,
-                               inputs[0].len, &start, &len);
-        sum += start + len;
-    }
-    return sum;
-}
-
-void run_job(const struct job *job, enum side side)
+static size_t run_library(const struct job *job)
 {
     switch (job->kind) {
     case UPLOAD_FIRST:
     case UPLOAD_REPEATED:
     case READ_BACK:
-        sink = side == LIBRARY ? board_library(job) : board_plain(job);
-        break;
+        return board_library(job);
     case UPLOAD_TALLY:
     case DROPPED:
-        sink = side == LIBRARY ? tally_library(job) : tally_plain(job);
-        break;
+        return tally_library(job);
     case READ_REPLY:
-        sink = side == LIBRARY ? read_library(job) : read_plain(job);
-        break;
+        return read_library(job);
     case ENCODE_WRITE:
     case ENCODE_SHORT:
-        sink = side == LIBRARY ? encode_library(job) : encode_plain(job);
-        break;
+        return encode_library(job);
     case DECODE_FULL:
     case DECODE_SHORT:
-        sink = side == LIBRARY ? decode_library(job) : decode_plain(job);
-        break;
-    case TWO_READS:
-        sink = side == LIBRARY ? two_library(job) : two_plain(job);
-        break;
+        return decode_library(job);
+    default: /* TWO_READS */
+        return two_library(job);
     }
+}
+
+/* The loops of the plain C, for each of its builds. */
+#define CALL(name) plain_##name
+#define LOOP(name) name##_plain
+#include "loops.h"
+#undef CALL
+#undef LOOP
+#define CALL(name) plain256_##name
+#define LOOP(name) name##_plain256
+#include "loops.h"
+
+void run_job(const struct job *job, enum side side)
+{
+    sink = side == LIBRARY ? run_library(job) : side == PLAIN ? run_plain(job) : run_plain256(job);
 }
 
 void set_up(const struct job *job, enum side side)
 {
-    memset(boards.out[side], 0xa5, sizeof boards.out[side]);
+    enum side own = side == LIBRARY ? LIBRARY : PLAIN; /* whose memory */
+    memset(boards.out[own], 0xa5, sizeof boards.out[own]);
     if (side == LIBRARY) {
         must(childbus_fresh(boards.state, sizeof boards.state) == 0);
         memset(boards.tally, 0, sizeof boards.tally);
@@ -412,11 +348,11 @@ void set_up(const struct job *job, enum side side)
         boards.plain_tally = (struct plain_tally){0};
     }
     if (job->kind == READ_BACK || job->kind == READ_REPLY)
-        memcpy(boards.flash[side], image, FLASH);
+        memcpy(boards.flash[own], image, FLASH);
     else
-        memset(boards.flash[side], 0xff, FLASH);
+        memset(boards.flash[own], 0xff, FLASH);
 
     /* a repeated upload has the upload behind it, a kept reply its request */
     if (job->kind == UPLOAD_REPEATED || job->kind == READ_REPLY)
-        sink = side == LIBRARY ? board_library(job) : board_plain(job);
+        sink = side == LIBRARY ? board_library(job) : side == PLAIN ? board_plain(job) : board_plain256(job);
 }

@@ -5,7 +5,8 @@
 #include "childbus.h"
 #include "plain.h"
 
-enum side { LIBRARY, PLAIN, SIDES };
+/* The library, the plain C, and the plain C by tables of 256 entries. */
+enum side { LIBRARY, PLAIN, PLAIN_256, SIDES };
 
 enum kind {
     UPLOAD_FIRST,    /* the board receives the writes and a finalize; flash all 0xFF before */
@@ -35,7 +36,7 @@ struct input {
     size_t at, len; /* the bytes in the pool */
 };
 
-/* A board of each side, and what the calls of one side leave. */
+/* A board of the library and one of the plain C, shared by its two builds, and what the calls of each leave. */
 struct boards {
     uint8_t profile[CHILDBUS_PROFILE_BYTES];
     uint8_t state[CHILDBUS_STATE_BYTES];
@@ -43,8 +44,8 @@ struct boards {
     struct plain_profile plain_profile;
     struct plain_state plain_state;
     struct plain_tally plain_tally;
-    uint8_t flash[SIDES][CHILDBUS_FLASH_MAX];
-    uint8_t out[SIDES][CHILDBUS_FRAME_MAX];
+    uint8_t flash[2][CHILDBUS_FLASH_MAX]; /* LIBRARY's and PLAIN's */
+    uint8_t out[2][CHILDBUS_FRAME_MAX];
 };
 
 /* The largest S with pages of 64 bytes, and with pages of 128. */
@@ -71,7 +72,8 @@ void set_up(const struct job *job, enum side side);
 /* Runs a job's calls once. */
 void run_job(const struct job *job, enum side side);
 
-/* Compares both sides on every job's inputs, then on random ones. False, after a message, if they differ. */
+/* Compares the library with both builds of the plain C on every job's inputs, then on random ones. False, after a message, if
+ * they differ. */
 bool agree(void);
 
 #endif

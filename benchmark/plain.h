@@ -1,6 +1,9 @@
 /*
  * A board and a master of the Childbus bootloader protocol in plain C: what the library is measured against.
  * Same rules and same numbers as childbus.h; profile, state and tally are structs. Check sums by half bytes.
+ *
+ * plain.c is compiled twice. With WHOLE_BYTES defined check sums go by whole bytes, with tables of 256 entries, and the functions'
+ * names begin with plain256_ instead of plain_.
  */
 #ifndef PLAIN_H
 #define PLAIN_H
@@ -8,6 +11,20 @@
 #include <stdbool.h>
 #include <stddef.h>
 #include <stdint.h>
+
+#ifdef WHOLE_BYTES
+#define plain_crc8 plain256_crc8
+#define plain_crc16 plain256_crc16
+#define plain_fresh plain256_fresh
+#define plain_receive plain256_receive
+#define plain_receive_tally plain256_receive_tally
+#define plain_read plain256_read
+#define plain_encode plain256_encode
+#define plain_general plain256_general
+#define plain_decode plain256_decode
+#define plain_two_reads plain256_two_reads
+#define plain_version plain256_version
+#endif
 
 enum plain_bus { PLAIN_I2C = 0, PLAIN_RS485 = 1 };
 
@@ -74,5 +91,19 @@ uint32_t plain_two_reads(uint32_t code, uint32_t asked, const uint8_t *first, si
                          size_t second_len, size_t *start, size_t *len);
 
 uint32_t plain_version(uint32_t major, uint32_t minor, uint32_t *known_major, uint32_t *known_minor);
+
+#ifndef WHOLE_BYTES
+extern __typeof__(plain_crc8) plain256_crc8;
+extern __typeof__(plain_crc16) plain256_crc16;
+extern __typeof__(plain_fresh) plain256_fresh;
+extern __typeof__(plain_receive) plain256_receive;
+extern __typeof__(plain_receive_tally) plain256_receive_tally;
+extern __typeof__(plain_read) plain256_read;
+extern __typeof__(plain_encode) plain256_encode;
+extern __typeof__(plain_general) plain256_general;
+extern __typeof__(plain_decode) plain256_decode;
+extern __typeof__(plain_two_reads) plain256_two_reads;
+extern __typeof__(plain_version) plain256_version;
+#endif
 
 #endif

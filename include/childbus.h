@@ -152,8 +152,9 @@ extern "C" {
  *
  * Number 4 is given for a buffer shorter than CHILDBUS_STATE_BYTES, an address kind or a running byte above 1,
  * next over S, w over next mod page, count over next - w, a last reply over M bytes, and any on RS485. Bytes past 404
- * are never touched. A call answered 2 or above leaves every byte as it was. After 0 and 1 the bytes that mean nothing
- * (3, the own address with kind 0, waiting bytes beyond w, reply bytes beyond its length) may hold anything.
+ * are never touched. A call answered 2 or above leaves every byte as it was. A call answered 0 or 1 touches only bytes
+ * that mean something after it: byte 3, the own address with kind 0, waiting bytes beyond w and reply bytes beyond its
+ * length hold what they held before. No answer depends on them.
  *
  * The state does not hold its page. One made under another page is judged by the rule above alone: number 4, or taken,
  * and then its waiting bytes still go to their own places, next - w .. next - 1.
@@ -176,7 +177,7 @@ extern "C" {
 /*
  * The fresh board: default range, not running, all the rest zero. Call it once at power-up.
  *
- *   state, state_len  its first 404 bytes become the fresh state
+ *   state, state_len  its first 404 bytes become the fresh state: zeros, also where they mean nothing
  *
  * Answers 0; 4 if the buffer is shorter than 404.
  */

@@ -3,7 +3,8 @@
  * each call of childbus.h, its name and its deepest use of the stack in bytes.
  *
  * Each buffer is lent at an alignment that changes from call to call (the flash from F line to F line), with guard bytes around it.
- * After each call the guard bytes are looked at, and the bytes of buffers that are only read; after a number of 2 or above the state's.
+ * After each call the guard bytes are looked at, and the bytes of buffers that are only read; after a number of 2 or above the state's,
+ * after 0 and 1 those of the state that mean nothing. These are not 0 before any board call.
  *
  * Status: 0, 2 if a line of the case file is bad, 1 for anything else.
  */
@@ -115,6 +116,19 @@ static void say_line(const char *what, int new_status)
 static void wrong(const char *what)
 {
     say_line(what, 1);
+}
+
+static void wrong_byte(const char *what, size_t at, uint8_t expected, uint8_t found)
+{
+    char text[24];
+    wrong(what);
+    machine_say("  byte ");
+    machine_say(digits(at, text));
+    machine_say(": expected ");
+    machine_say(digits(expected, text));
+    machine_say(", found ");
+    machine_say(digits(found, text));
+    machine_say("\n");
 }
 
 /* Input, in blocks; a line is as long as the longest that FORMAT.md has. */
@@ -423,6 +437,37 @@ static uint8_t page_byte(uint32_t page)
     return low < 2 ? low + 2 : low;
 }
 
+/* Whether a byte of a state means nothing in this state. */
+static int means_nothing(const uint8_t *of, size_t at)
+{
+    if (at == CHILDBUS_STATE_OWN_ADDRESS)
+        return of[CHILDBUS_STATE_ADDRESS_KIND] == 0;
+    if (at < CHILDBUS_STATE_WAITING)
+        return at == 3;
+    if (at < CHILDBUS_STATE_REPLY)
+        return at - CHILDBUS_STATE_WAITING >= load(of + CHILDBUS_STATE_WAITING_COUNT);
+    return at - CHILDBUS_STATE_REPLY >= load(of + CHILDBUS_STATE_REPLY_LENGTH);
+}
+
+/* Another byte at each place that means nothing, never 0. */
+static void fill_state(void)
+{
+    for (size_t i = 0; i < sizeof state_now; i++)
+        if (means_nothing(state_now, i))
+            state_now[i] = (uint8_t)(i * 37) | 1;
+}
+
+/* The state after a call: all as it was after 2 and above, else what means nothing now. */
+static void state_kept(uint32_t answer)
+{
+    for (size_t i = 0; i < sizeof state_now; i++)
+        if ((answer >= 2 || means_nothing(state.at, i)) && state.at[i] != state_now[i]) {
+            wrong_byte(answer >= 2 ? "refused or silent, and the state has changed" : "a byte of the state that means nothing has changed",
+                       i, state_now[i], state.at[i]);
+            return;
+        }
+}
+
 static void profile_line(void)
 {
     uint8_t made[CHILDBUS_PROFILE_BYTES] = {0};
@@ -463,6 +508,11 @@ static void make_fresh(void)
     if (call_fresh() != CHILDBUS_MADE)
         wrong("the fresh state is not made");
     guarded(&state);
+    for (size_t i = 0; i < state.len; i++)
+        if (state.at[i] != 0) {
+            wrong_byte("the fresh state is not all zeros", i, 0, state.at[i]);
+            break;
+        }
     memcpy(state_now, state.at, sizeof state_now);
 }
 
@@ -594,6 +644,7 @@ static int board_taken(void)
 
 static void lend_board(void)
 {
+    fill_state();
     lend(&profile, profile_now, sizeof profile_now);
     lend(&state, state_now, sizeof state_now);
     lend_out(room);
@@ -606,8 +657,7 @@ static void put_board(char letter, uint32_t answer, const struct wide *made)
     guarded(&state);
     guarded(&flash);
     only_read(&profile, profile_now);
-    if (answer >= 2 && !same(state.at, state_now, sizeof state_now))
-        wrong("refused or silent, and the state has changed");
+    state_kept(answer);
     memcpy(state_now, state.at, sizeof state_now);
     put(letter);
     put_out(answer, made);

@@ -71,6 +71,13 @@ function pageByte(page) {
     return low < 2 ? low + 2 : low
 }
 
+// Whether a byte of a state means nothing in this state.
+function meansNothing(state, at) {
+    if (at === 1) return state[0] === 0
+    if (at < WAITING) return at === 3
+    return at < REPLY ? at - WAITING >= numberAt(state, 8) : at - REPLY >= numberAt(state, 16)
+}
+
 class Board {
     profile = null
     flash = null
@@ -99,6 +106,7 @@ class Board {
         this.state.fill(0x33)
         const { number } = this.library.fresh(this.state)
         if (number !== 0) throw new Error(`childbus_fresh answered ${number}`)
+        if (this.state.some(byte => byte !== 0)) throw new Error('the fresh state is not all zeros')
     }
 
     setProfile([bus, m, page, s, o], bytes, serial) {
@@ -133,11 +141,14 @@ class Board {
         if (!this.profile || !this.flash) throw new BadLine('a profile and a flash come first')
     }
 
-    // The output line of a call by the board.
+    // The output line of a call by the board. Bytes of the state that mean nothing are not 0 before it, and stay as they are; after 2
+    // and above all stay.
     called(call) {
+        this.state.forEach((byte, i) => { if (meansNothing(this.state, i)) this.state[i] = i * 37 | 1 })
         const [out, before] = [this.out(), this.state.slice()]
         const { number, made } = call(out)
-        if (number >= 2 && before.some((byte, i) => byte !== this.state[i])) throw new Error(`answered ${number}, and the state changed`)
+        const at = before.findIndex((byte, i) => byte !== this.state[i] && (number >= 2 || meansNothing(this.state, i)))
+        if (at >= 0) throw new Error(`answered ${number}, and state byte ${at} changed: expected ${before[at]}, found ${this.state[at]}`)
         const [reply, ok] = split(number, made, out)
         return [number, reply, ...this.stateFields(), hash(this.flash), ok].join(' ')
     }

@@ -1,9 +1,11 @@
 // Which writes are accepted, and where an upload begins anew.
-use state::Upload;
+use state::Counts;
 ghost use mathlib.Core.Path.{_≡_};
-ghost use Prim.Native.Nat.{_+_, _^_, _<_};
+ghost use mathlib.Core.List.{List};
+ghost use Prim.Native.Nat.{ℕ, _+_, _^_, _<_};
 ghost use Rattle.rules.specs.Commands.{accepted, restarted};
 ghost use Rattle.state.specs.View.{uploadOf};
+ghost use Rattle.state.specs.Heads.{uploadWith};
 
 // A write is accepted at 0 or next if its data don't run past S, in no other case.
 pub fn accepts(size: usize, next: usize, address: usize, n: usize) -> bool
@@ -20,8 +22,8 @@ pub fn accepts(size: usize, next: usize, address: usize, n: usize) -> bool
 }
 
 // An accepted write at 0, even an empty one, restarts: no waiting bytes, count 0.
-pub fn restart(u: Upload, address: usize) -> Upload
-    ensures { λ r. ⌜ uploadOf r ≡ restarted address (uploadOf u) ⌝ }
+pub fn restart(u: Counts, address: usize) -> Counts
+    ensures { λ r. ⌜ ((w : List ℕ) → uploadOf (uploadWith r w) ≡ restarted address (uploadOf (uploadWith u w))) ⌝ }
 {
     if address == 0 {
         return u.restarted();

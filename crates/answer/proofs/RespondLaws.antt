@@ -17,6 +17,7 @@ use Rattle.laws.proofs.CommandLaws.{length-reply}
 use Rattle.laws.proofs.OverlayLaws.{take-overlay, drop-overlay}
 use Rattle.laws.proofs.LaidLaws.{take-laid}
 use Rattle.state.specs.View.{view}
+use Rattle.state.specs.Heads.{stateWith}
 use Rattle.response.specs.declared.Response.{Response}
 use Rattle.response.specs.declared.Response.the-variants as response
 use Rattle.response.specs.declared.Done.{Done}
@@ -36,13 +37,13 @@ closed-laid bus to status results o out1 out2 room e f =
     f ∙ rw (there, behind)
 
 -- what is left by a response of a status with results
-pub with-reply-ruled : (bus : Bus) (to status count n : ℕ) (done : Done) (s : rules.State) (d o out1 out2 : List ℕ) (a : Acted)
+pub with-reply-ruled : (bus : Bus) (to status count n : ℕ) (done : Done) (s : rules.State) (w l d o out1 out2 : List ℕ) (a : Acted)
     → done .response ≡ response.Reply status count → length o ≡ length out1
-    → buffered.commandEffect done d out1 ≡ buffered.ruledCommand a o (headerLength bus + 2)
+    → buffered.commandEffect done w l d out1 ≡ buffered.ruledCommand a o (headerLength bus + 2)
     → count + shortestReply bus ≤ length out1 → Closing bus to status count out1 out2 n
-    → s ≡ withReply bus (view (done .state)) (take n out2)
+    → s ≡ withReply bus (view (stateWith (done .head) w l)) (take n out2)
     → _≡_ {A = CallEffect} (record { number = 0; made = n; state = s; flash = d; out = out2 }) (expectedEffect (finishedCall bus to a) o)
-with-reply-ruled bus to status count n done s d o out1 out2 a said long acted room closing kept = go (a .response) refl
+with-reply-ruled bus to status count n done s w l d o out1 out2 a said long acted room closing kept = go (a .response) refl
   where
     go : (r : responses.Response) → a .response ≡ r
         → _≡_ {A = CallEffect} (record { number = 0; made = n; state = s; flash = d; out = out2 })
@@ -68,11 +69,11 @@ with-reply-ruled bus to status count n done s d o out1 out2 a said long acted ro
         rw (e, n-is, kept-is, out2-is, ap (λ (x : buffered.CommandEffect). x .flash) acted)
 
 -- and without a reply
-pub no-reply-ruled : (bus : Bus) (to : ℕ) (done : Done) (s : rules.State) (d o out1 : List ℕ) (a : Acted)
-    → done .response ≡ response.NoReply → buffered.commandEffect done d out1 ≡ buffered.ruledCommand a o (headerLength bus + 2)
-    → s ≡ withReply bus (view (done .state)) []
+pub no-reply-ruled : (bus : Bus) (to : ℕ) (done : Done) (s : rules.State) (w l d o out1 : List ℕ) (a : Acted)
+    → done .response ≡ response.NoReply → buffered.commandEffect done w l d out1 ≡ buffered.ruledCommand a o (headerLength bus + 2)
+    → s ≡ withReply bus (view (stateWith (done .head) w l)) []
     → _≡_ {A = CallEffect} (record { number = 1; made = 0; state = s; flash = d; out = out1 }) (expectedEffect (finishedCall bus to a) o)
-no-reply-ruled bus to done s d o out1 a said acted kept = go (a .response) refl
+no-reply-ruled bus to done s w l d o out1 a said acted kept = go (a .response) refl
   where
     go : (r : responses.Response) → a .response ≡ r
         → _≡_ {A = CallEffect} (record { number = 1; made = 0; state = s; flash = d; out = out1 })

@@ -3,9 +3,8 @@
 use mathlib.Core.Path.{_≡_}
 use mathlib.Core.Bool.{true}
 use mathlib.Core.List.{List}
-use Prim.Native.Nat.{ℕ, _+_, _≤_}
+use Prim.Native.Nat.{ℕ, _≤_}
 use lib.ListN.{length}
-use Rattle.rules.specs.declared.kinds.Bus.{Bus}
 use Rattle.rules.specs.declared.kinds.Bus.the-variants.{I2c, Rs485}
 use Rattle.rules.specs.declared.kinds.Outcome.{Outcome}
 use Rattle.rules.specs.declared.kinds.Outcome.the-variants.{Nothing, FrameTooShort, FrameTooLong, FrameSumWrong, FrameForeign}
@@ -14,17 +13,11 @@ use Rattle.rules.specs.declared.kinds.Reason.the-variants.{Running, Short, Long
 use Rattle.rules.specs.declared.kinds.Verdict.{Verdict}
 use Rattle.rules.specs.State as rules
 use Rattle.rules.specs.Numbers.{number, made, laid}
-use Rattle.rules.specs.Frames.{shortestReply, ignored}
+use Rattle.rules.specs.Frames.{ignored}
 use Rattle.rules.specs.Board.{Called}
 use Rattle.state.specs.declared.State.{State}
-use Rattle.state.specs.View.{view, largestFrame}
-use Rattle.response.specs.declared.Response.{Response}
-use Rattle.response.specs.declared.Response.the-variants.{Reply, NoReply}
+use Rattle.state.specs.View.{view}
 use Rattle.answer.specs.declared.Answer.{Answer}
-
--- nothing to send: number 1 and the very state, bytes that mean nothing too
-abbrev pub silent : State → Answer
-silent s = record { outcome = Nothing; state = s }
 
 -- W3: an ignored frame's answer says why it gets no reply, where that has a number of its own
 abbrev pub ignoredOutcome : Reason → Outcome
@@ -52,12 +45,6 @@ abbrev pub expectedEffect : Called → List ℕ → CallEffect
 expectedEffect c out =
     record { number = c .number; made = length (c .reply); state = c .state; flash = c .flash; out = laid (c .reply) out }
 
--- a frame of verdict v, handled on the state s, is answered by r, and leaves the flash d and the buffer out, which was before
-pub record Handled (s : State) (r : Answer) (d out before : List ℕ) (c : Called) (v : Verdict) : Type 0 where
-  pub called : callEffect r d out ≡ expectedEffect c before
-  -- an ignored frame: the very state that was given
-  pub untouched : ignored v ≡ true → r .state ≡ s
-
 -- a call on the state s answered r, and left the flash d and the buffer out, which was before
 pub record Answered (s : State) (r : Answer) (d out before : List ℕ) (c : Called) : Type 0 where
   -- of the state its view: after 0 and 1 the bytes that mean nothing are left open
@@ -75,8 +62,3 @@ pub record FrameAnswered (s : State) (r : Answer) (d out before : List ℕ) (c :
 pub record ReadAnswered (s : State) (r : Answer) (d out before : List ℕ) (c : Called) : Type 0 where
   pub called : callEffect r d out ≡ expectedEffect c before
   pub state-is : r .state ≡ s
-
--- a response's results fit a lent buffer of n bytes and the last reply
-abbrev pub Fits : Bus → ℕ → Response → Type 0
-Fits bus n (Reply status count) = (count + shortestReply bus ≤ largestFrame) × (count + shortestReply bus ≤ n)
-Fits bus n NoReply = Unit

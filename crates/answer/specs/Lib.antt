@@ -1,2 +1,3 @@
--- What the two board calls promise.
+-- What the two board calls promise, and the functions inside them.
 pub mod Answered
+pub mod HeadAnswered

@@ -1,35 +1,46 @@
-// What a board call answers: nothing, or the response of a command as a reply in the lent buffer and on I²C in the state as well.
+// What a board call answers: nothing, or the response of a command as a reply in the lent buffer and on I²C in the state as well. Inside,
+// the head of the state goes by value, and its two buffers are lent: that of the last reply is written at the end, by `keep_reply`.
 use frame::reply::close;
 use response::Done;
 use response::Response;
 use rules::kinds::Bus;
 use rules::kinds::Outcome;
 use rules::kinds::Reason;
+use state::Head;
 use state::State;
 ghost use mathlib.Core.Path.{_≡_};
 ghost use mathlib.Core.List.{List, []};
 ghost use Prim.Native.Nat.{ℕ, _+_, _≤_};
-ghost use lib.ListN.{length};
+ghost use lib.ListN.{length, take};
 ghost use Rattle.rules.specs.Frames.{headerLength};
 ghost use Rattle.rules.specs.Responses as responses;
 ghost use Rattle.rules.specs.Responses.{Acted};
 ghost use Rattle.rules.specs.Board.{finishedCall};
 ghost use Rattle.state.specs.View.{view};
+ghost use Rattle.state.specs.Heads.{stateWith, keptReply};
 ghost use Rattle.response.specs.Done as buffered;
-ghost use Rattle.answer.specs.Answered.{silent, ignoredOutcome, callEffect, expectedEffect, Fits};
+ghost use Rattle.answer.specs.Answered.{ignoredOutcome, expectedEffect};
+ghost use Rattle.answer.specs.HeadAnswered.{silent, headEffect, Fits};
 
+// What a board call answers, and the state after it.
 pub struct Answer {
     pub outcome: Outcome,
     pub state: State,
 }
 
+// The same with the head of the state alone.
+pub struct HeadAnswer {
+    pub outcome: Outcome,
+    pub head: Head,
+}
+
 // Nothing to send.
-pub fn no_reply(s: State) -> Answer
-    ensures { λ r. ⌜ r ≡ silent s ⌝ }
+pub fn no_reply(h: Head) -> HeadAnswer
+    ensures { λ r. ⌜ r ≡ silent h ⌝ }
 {
-    Answer {
+    HeadAnswer {
         outcome: Outcome::Nothing,
-        state: s,
+        head: h,
     }
 }
 
@@ -50,41 +61,53 @@ pub fn ignored_outcome(reason: Reason) -> Outcome
     }
 }
 
-// The response of a command as an answer: the reply in the lent buffer, and on I²C in the state as well.
-pub fn respond(bus: Bus, to: u8, done: Done, out: &mut [u8]) -> Answer
+// The response of a command as an answer: the reply in the lent buffer, and on I²C its length in the head.
+pub fn respond(bus: Bus, to: u8, done: Done, out: &mut [u8]) -> HeadAnswer
     requires { ⌜ Fits bus (length (now out)) (done .response) ⌝ }
     ensures { λ r.
-        ⌜ ((a : Acted) (d : List ℕ) (o : List ℕ)
-        → length o ≡ length (now (out .entry)) → buffered.commandEffect done d (now (out .entry))
+        ⌜ ((a : Acted) (w l d o : List ℕ)
+        → length o ≡ length (now (out .entry)) → buffered.commandEffect done w l d (now (out .entry))
         ≡ buffered.ruledCommand a o (headerLength bus + 2)
-        → callEffect r d (now (out .exit)) ≡ expectedEffect (finishedCall bus to a) o) ⌝ }
+        → headEffect bus r w l d (now (out .exit)) ≡ expectedEffect (finishedCall bus to a) o) ⌝ }
 {
     let response = done.response;
-    let state = done.state;
+    let head = done.head;
     match response {
         Response::Reply { status, count } => {
             let n = close(bus, to, status, count, out);
-            Answer {
+            HeadAnswer {
                 outcome: Outcome::Reply(n),
-                state: state.with_reply(bus, &out[..n]),
+                head: head.with_reply(bus, n),
             }
         }
-        Response::NoReply => Answer {
+        Response::NoReply => HeadAnswer {
             outcome: Outcome::Nothing,
-            state: state.without_reply(),
+            head: head.without_reply(),
         },
     }
 }
 
 // A status with no results; the state stays.
-pub fn fault(bus: Bus, to: u8, s: State, status: u8, out: &mut [u8]) -> Answer
+pub fn fault(bus: Bus, to: u8, h: Head, status: u8, out: &mut [u8]) -> HeadAnswer
     requires { ⌜ 32 ≤ length (now out) ⌝ }
-    ensures { λ r. ⌜ ((d : List ℕ) → callEffect r d (now (out .exit))
-        ≡ expectedEffect (finishedCall bus to (responses.replying (view s) d status [])) (now (out .entry))) ⌝ }
+    ensures { λ r.
+        ⌜ ((w l d : List ℕ) → headEffect bus r w l d (now (out .exit))
+        ≡ expectedEffect (finishedCall bus to (responses.replying (view (stateWith h w l)) d status [])) (now (out .entry))) ⌝ }
 {
     let done = Done {
         response: Response::Reply { status, count: 0 },
-        state: s,
+        head: h,
     };
     respond(bus, to, done, out)
+}
+
+// The last reply's buffer after a reply of n bytes: only I²C keeps it.
+pub fn keep_reply(bus: Bus, n: usize, out: &[u8], last: &mut [u8])
+    requires { ⌜ (n ≤ length (now out)) × (n ≤ length (now last)) ⌝ }
+    ensures { λ _. ⌜ now (last .exit) ≡ keptReply bus (take n (now (out .entry))) (now (last .entry)) ⌝ }
+{
+    match bus {
+        Bus::I2c => byte_slices::store(last, 0, &out[..n]),
+        Bus::Rs485 => {}
+    }
 }

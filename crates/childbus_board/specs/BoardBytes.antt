@@ -4,14 +4,13 @@ use mathlib.Core.Bool.{cond}
 use mathlib.Core.List.{List}
 use Prim.Native.Nat.{ℕ}
 use lib.Dec.{leb, ltb}
-use lib.ListN.{length}
+use lib.ListN.{length, replicate}
 use Rattle.rules.specs.Numbers.{laid}
 use Rattle.rules.specs.Board.{Called, received, readOut}
-use Rattle.state.specs.View.{view, zeroed}
+use Rattle.state.specs.View.{view}
 use Rattle.profile.specs.View.{profileOf}
 use Rattle.profile_bytes.specs.ProfileBytes.{profileAt}
 use Rattle.state_bytes.specs.StateBytes.{stateSize, stateAt, stateWritten}
-use Rattle.normalize.specs.Normalized.{normalized}
 
 -- childbus_fresh
 
@@ -19,10 +18,12 @@ pub record FreshLeft : Type 0 where
   pub number : ℕ
   pub state : List ℕ
 
--- 4 for a buffer that is too short, which stays as it was
+-- zeros in every byte of a state; 4 for a buffer that is too short, which stays as it was
 unfoldable pub freshLeft : List ℕ → FreshLeft
 freshLeft state =
-    cond (leb stateSize (length state)) (record { number = 0; state = stateWritten zeroed state }) (record { number = 4; state = state })
+    cond (leb stateSize (length state))
+    (record { number = 0; state = laid (replicate stateSize 0) state })
+    (record { number = 4; state = state })
 
 -- childbus_receive
 
@@ -33,9 +34,9 @@ pub record ReceivedLeft : Type 0 where
   pub flash : List ℕ
   pub out : List ℕ
 
--- a refused call leaves every byte of the state; any other leaves the new state in its first bytes, and the rest
+-- a refused call leaves every byte of the state; any other writes the new state, and leaves every byte that means nothing
 abbrev pub stateLeft : Called → List ℕ → List ℕ
-stateLeft c state = cond (ltb (c .number) 2) (stateWritten (normalized (c .state)) state) state
+stateLeft c state = cond (ltb (c .number) 2) (stateWritten (c .state) state) state
 
 abbrev pub receivedBy : Called → List ℕ → List ℕ → ReceivedLeft
 receivedBy c state out =

@@ -4,34 +4,39 @@ use profile::Profile;
 use response::COMMAND_NOT_SUPPORTED;
 use response::Done;
 use response::INVALID_ARGUMENTS;
-use state::State;
+use state::Head;
 ghost use mathlib.Core.Path.{_≡_};
 ghost use lib.ListN.{length};
 ghost use Rattle.rules.specs.Commands.{executed};
-ghost use Rattle.state.specs.View.{view};
+ghost use Rattle.state.specs.View.{largestPage, view};
+ghost use Rattle.state.specs.Heads.{stateWith};
 ghost use Rattle.profile.specs.View.{profileOf};
-ghost use Rattle.response.specs.Done.{commandEffect, ruledCommand, Serving};
+ghost use Rattle.response.specs.Done.{Commanded, Serving};
 
 // A command with its arguments, its results laid into the lent buffer from a place on.
 pub fn execute(
     p: Profile,
-    s: State,
+    h: Head,
     code: usize,
     args: &[u8],
+    waiting: &mut [u8],
     flash: &mut [u8],
     out: &mut [u8],
     at: usize,
 ) -> Done
-    requires { ⌜ Serving p s (length (now flash)) (length (now out)) at ⌝ }
+    requires { ⌜ Serving p h (length (now flash)) (length (now out)) at ⌝ }
+    requires { ⌜ length (now waiting) ≡ largestPage ⌝ }
     ensures { λ r.
-        ⌜ commandEffect r (now (flash .exit)) (now (out .exit))
-        ≡ ruledCommand (executed (profileOf p) (view s) code (now (args .entry)) (now (flash .entry))) (now (out .entry)) at ⌝ }
+        ⌜ Commanded r (now (waiting .entry)) (now (waiting .exit)) (now (flash .exit)) (now (out .exit))
+        (λ l. executed (profileOf p) (view (stateWith h (now (waiting .entry)) l)) code (now (args .entry)) (now (flash .entry)))
+        (now (out .entry)) at ⌝ }
 {
-    if !arguments::served(code) {
-        return response::reply(s, COMMAND_NOT_SUPPORTED, &[], out, at);
+    let row = arguments::row(code);
+    if !arguments::row_serves(row) {
+        return response::reply(h, COMMAND_NOT_SUPPORTED, &[], out, at);
     }
-    if !arguments::length_allowed(code, args.len()) {
-        return response::reply(s, INVALID_ARGUMENTS, &[], out, at);
+    if !arguments::row_allows(row, args.len()) {
+        return response::reply(h, INVALID_ARGUMENTS, &[], out, at);
     }
-    perform(p, s, code, args, flash, out, at)
+    perform(p, h, code, args, waiting, flash, out, at)
 }

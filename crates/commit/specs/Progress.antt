@@ -2,7 +2,7 @@
 use mathlib.Core.Path.{_≡_}
 use mathlib.Core.Bool.{true, cond}
 use mathlib.Core.List.{List}
-use Prim.Native.Nat.{ℕ, _+_, _%_, _<_, _≤_}
+use Prim.Native.Nat.{ℕ, _+_, _≤_}
 use lib.ListN.{length, take, drop}
 use Rattle.rules.specs.Bytes.{same, overlay}
 use Rattle.rules.specs.Profile.{inRange}
@@ -27,12 +27,6 @@ pub record Ready (p : Profile) (u : Upload) (flashLength : ℕ) : Type 0 where
 pub record Formed (p : Profile) (u : Upload) (next : ℕ) : Type 0 where
   pub formed : uploadFormed (profileOf p .page) (p .size) (uploadOf u) ≡ true
   pub next-is : u .next ≡ next
-
--- n of the bytes left, in the page of the next address: some, and none past the page's end
-pub record Part (page next left n : ℕ) : Type 0 where
-  pub some : 0 < n
-  pub within : n ≤ left
-  pub in-page : next % page + n ≤ page
 
 -- bytes committed at a place of flash d, which becomes d′, with the erase count before and after
 pub record CommitCounted (d : List ℕ) (at : ℕ) (bytes : List ℕ) (count count′ : ℕ) (d′ : List ℕ) : Type 0 where

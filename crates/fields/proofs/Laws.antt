@@ -1,14 +1,20 @@
--- Laws of byte layouts: the bytes of a number both ways, and parts that lie one behind the other.
+-- Laws of byte layouts: the bytes of a number both ways, parts that lie one behind the other, and parts of an overlay.
 use mathlib.Core.Path.{_≡_, refl, sym, ap, _∙_}
 use mathlib.Core.Bool.{Bool, true, false, _&&_}
 use mathlib.Core.List.{List, [], _∷_, _++_, append-assoc}
-use Prim.Native.Nat.{ℕ, zero, suc, _+_, _*_, _/_, _%_, _^_, _≤_, _<_}
+use Prim.Native.Nat.{ℕ, zero, suc, _+_, _-_, _*_, _/_, _%_, _^_, _≤_, _<_}
 use native.Mathlib.Omega.{arith}
-use native.Mathlib.Nat.{div-div-eq-div-mul}
+use native.Mathlib.Nat.{add-zero, div-div-eq-div-mul}
 use native.Mathlib.Numerals.{add-one}
 use lib.ListN.{length, take, drop, getD, length-append, length-drop, take-append-drop}
-use lib.Seq.{take-add, drop-drop, drop-cons, length-take-le}
+use lib.Seq.{take-add, take-take, take-append-le, take-append-add, drop-at, drop-append-le, drop-drop, drop-cons, length-take-le}
+use Rattle.rules.specs.Bytes.{overlay}
 use Rattle.rules.specs.Numbers.{laid}
+use Rattle.rules.specs.State.{used}
+use Rattle.laws.proofs.BytesLaws.{drop-take, same-self, overlay-same, overlay-within}
+use Rattle.laws.proofs.LaidLaws.{overlay-first}
+use Rattle.laws.proofs.OverlayLaws.{drop-overlay}
+use Rattle.laws.proofs.StateLaws.{used-take}
 use Rattle.byte_slices.specs.Four.{fourAt, fourBytes}
 use Rattle.fields.specs.Fields.{Bytes, part}
 
@@ -80,6 +86,62 @@ laid-part front b n room =
     length-append front (part b (length front) n)
     ∙ ap (λ (k : ℕ). length front + k) (length-take-le n (drop (length front) b) (simp length-drop (omega arith))) in
     rw (long, append-assoc, ← drop-drop n (length front) b, take-append-drop)
+
+-- parts of an overlay
+
+part-append : (l m : List ℕ) (k n : ℕ) → k + n ≤ length l → part (l ++ m) k n ≡ part l k n
+part-append l m k n room =
+    rw (drop-append-le k l m (omega arith)) (take-append-le n (drop k l) m (simp length-drop (omega arith)))
+
+module _ (b : List ℕ) (at : ℕ) (xs : List ℕ) (fits : at + length xs ≤ length b) where
+  -- the one that begins with the bytes laid
+  pub part-laid : (n : ℕ) → length xs ≤ n → at + n ≤ length b → part (overlay b at xs) at n ≡ laid xs (part b at n)
+  unfolding overlay
+  part-laid n within room =
+      let rest : length xs + (n - length xs) ≡ n = omega arith in
+      let front : length (take at b) ≡ at = length-take-le at b (omega arith) in
+      rw (append-assoc (take at b) xs (drop (at + length xs) b), drop-at (take at b) (xs ++ drop (at + length xs) b) at front)
+      (ap (λ (k : ℕ). take k (xs ++ drop (at + length xs) b)) (sym rest)
+      ∙ take-append-add xs (drop (at + length xs) b) (n - length xs)
+      ∙ ap (λ (l : List ℕ). xs ++ take (n - length xs) l) (sym (drop-drop (length xs) at b))
+      ∙ ap (λ (l : List ℕ). xs ++ l) (sym (drop-take (length xs) n (drop at b))))
+
+  -- one behind them
+  pub part-behind : (k n : ℕ) → at + length xs ≤ k → part (overlay b at xs) k n ≡ part b k n
+  part-behind k n past = ap (λ (l : List ℕ). take n l) (drop-overlay b at xs fits k past)
+
+  -- one before them
+  pub part-before : (k n : ℕ) → k + n ≤ at → part (overlay b at xs) k n ≡ part b k n
+  unfolding overlay
+  part-before k n before =
+      let front : length (take at b) ≡ at = length-take-le at b (omega arith) in
+      let room : k + n ≤ length (take at b) = omega arith in
+      rw (append-assoc (take at b) xs (drop (at + length xs) b))
+      (part-append (take at b) (xs ++ drop (at + length xs) b) k n room
+      ∙ sym (part-append (take at b) (drop at b) k n room)
+      ∙ ap (λ (l : List ℕ). part l k n) (take-append-drop at b))
+
+-- a part of a list, replaced by as many bytes
+pub part-put : (b : List ℕ) (at n : ℕ) (ys : List ℕ) → length ys ≡ n → take at b ++ (ys ++ drop n (drop at b)) ≡ overlay b at ys
+unfolding overlay
+part-put b at n ys e = sym (append-assoc (take at b) ys (drop n (drop at b))) ∙ rw (drop-drop n at b, e)
+
+-- bytes laid into a part of a list, and that part laid back
+pub overlay-part : (b : List ℕ) (at n : ℕ) (xs : List ℕ) → at + n ≤ length b → length xs ≤ n
+    → overlay b at (laid xs (part b at n)) ≡ overlay b at xs
+overlay-part b at n xs room fits =
+    ap (overlay b at) (sym (overlay-first xs (part b at n)))
+    ∙ overlay-within b at n 0 xs room (omega arith)
+    ∙ ap (λ (k : ℕ). overlay b k xs) (add-zero at)
+
+-- bytes laid where they stand
+pub overlay-own : (b : List ℕ) (at n m : ℕ) → n ≤ m → at + m ≤ length b → overlay b at (used n (part b at m)) ≡ b
+overlay-own b at n m within room =
+    let long : length (part b at m) ≡ m = length-take-le m (drop at b) (simp length-drop (omega arith)) in
+    let own : used n (part b at m) ≡ take n (drop at b) = used-take n (part b at m) (omega arith) ∙ take-take n m (drop at b) within in
+    let many : length (take n (drop at b)) ≡ n = length-take-le n (drop at b) (simp length-drop (omega arith)) in
+    ap (overlay b at) own
+    ∙ overlay-same b at (take n (drop at b)) (omega arith) (rw many (same-self (take n (drop at b))))
 
 -- a byte that is 0 or 1
 pub zero-or-one : (P : ℕ → Type 0) (n : ℕ) → n ≤ 1 → P 0 → P 1 → P n

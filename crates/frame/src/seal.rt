@@ -1,6 +1,5 @@
 // The check sum behind the bytes of a frame. Whether it is right is `crc::sum_right`.
 use crc::sum_bytes;
-use frame_sizes::sum_length;
 use rules::kinds::Bus;
 ghost use mathlib.Core.Path.{_≡_};
 ghost use Prim.Native.Nat.{_+_, _≤_};
@@ -13,8 +12,13 @@ pub fn seal(bus: Bus, buffer: &mut [u8], n: usize) -> usize
     requires { ⌜ n + sumLength bus ≤ length (now buffer) ⌝ }
     ensures { λ r. ⌜ Sealing bus n (now (buffer .entry)) (now (buffer .exit)) r ⌝ }
 {
-    let k = sum_length(bus);
     let sum = sum_bytes(bus, &buffer[..n]);
-    byte_slices::store(buffer, n, &sum[..k]);
-    n + k
+    buffer[n] = sum[0];
+    match bus {
+        Bus::I2c => n + 1,
+        Bus::Rs485 => {
+            buffer[n + 1] = sum[1];
+            n + 2
+        }
+    }
 }

@@ -3,10 +3,13 @@ use formed::well_formed;
 use profile::Profile;
 use profile::in_range;
 use rules::kinds::Outcome;
-use state::State;
+use state::Head;
 ghost use mathlib.Core.Path.{_≡_};
+ghost use mathlib.Core.List.{List};
+ghost use Prim.Native.Nat.{ℕ};
 ghost use Rattle.rules.specs.Numbers.{flashShort, bufferShort, refusal};
 ghost use Rattle.state.specs.View.{view};
+ghost use Rattle.state.specs.Heads.{stateWith};
 ghost use Rattle.refusal.specs.Checks.{checkOf};
 ghost use Rattle.profile.specs.View.{profileOf};
 
@@ -35,8 +38,8 @@ pub enum Check {
 }
 
 // Order of a board call's tests: 2, 3, 4, 5; each may rely on those before it.
-pub fn refuse(p: Profile, s: State, flash: usize, buffer: usize) -> Check
-    ensures { λ r. ⌜ r ≡ checkOf (refusal (profileOf p) (view s) flash buffer) ⌝ }
+pub fn refuse(p: Profile, h: Head, flash: usize, buffer: usize) -> Check
+    ensures { λ r. ⌜ ((w l : List ℕ) → r ≡ checkOf (refusal (profileOf p) (view (stateWith h w l)) flash buffer)) ⌝ }
 {
     if !in_range(p) {
         return Check::Refused(Outcome::ProfileOutOfRange);
@@ -44,7 +47,7 @@ pub fn refuse(p: Profile, s: State, flash: usize, buffer: usize) -> Check
     if flash_short(p, flash) {
         return Check::Refused(Outcome::FlashTooShort);
     }
-    if !well_formed(p, s) {
+    if !well_formed(p, h) {
         return Check::Refused(Outcome::StateMalformed);
     }
     if buffer_short(p, buffer) {

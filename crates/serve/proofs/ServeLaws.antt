@@ -13,7 +13,7 @@ use Rattle.rules.specs.Numbers.{Unrefused}
 use Rattle.laws.proofs.StateLaws.{unrefused-profile, unrefused-state}
 use Rattle.response.specs.declared.Response as response
 use Rattle.response.specs.Done.{counted}
-use Rattle.answer.specs.Answered.{Fits}
+use Rattle.answer.specs.HeadAnswered.{Fits}
 
 -- a command's results fit the reply buffer and the last reply
 pub fits-counted : (p : Profile) (n : ℕ) (r : Response) → p .longest ≤ 256 → p .longest ≤ n → laws.Fits p r → Fits (p .bus) n (counted r)

@@ -1,2 +1,3 @@
--- What a state of the code says.
+-- What a state of the code says, and what a head says with any two buffers.
 pub mod View
+pub mod Heads

@@ -1,16 +1,18 @@
 // Document 01, "State": the state of a board, the sizes that belong to it, the fresh board, which is built here and nowhere else,
-// and the changes that calls make to a state. What a state means is `view`, in specs/View.antt.
+// its head, which is all of it but the two buffers, and the changes that calls make to a head. What a state means is `view`, in
+// specs/View.antt; what a head means with any two buffers is the view of `stateWith`.
 use rules::kinds::Address;
 use rules::kinds::Bus;
 ghost use mathlib.Core.Path.{_≡_};
-ghost use mathlib.Core.List.{[]};
-ghost use Prim.Native.Nat.{_≤_};
+ghost use mathlib.Core.List.{List, []};
+ghost use Prim.Native.Nat.{ℕ};
 ghost use lib.ListN.{length};
 ghost use Rattle.rules.specs.declared.kinds.Bus.{Bus};
 ghost use Rattle.rules.specs.State.{freshUpload, withAddress, withUpload};
 ghost use Rattle.rules.specs.Commands.{started};
 ghost use Rattle.rules.specs.Board.{withReply, addressReset};
-ghost use Rattle.state.specs.View.{largestFrame, uploadOf, lastOf, view, Fresh};
+ghost use Rattle.state.specs.View.{uploadOf, view, Fresh};
+ghost use Rattle.state.specs.Heads.{uploadWith, stateWith, keptReply};
 
 // The upload: next address, waiting bytes w (the first `held` of the buffer) and erase count.
 pub struct Upload {
@@ -33,10 +35,26 @@ pub struct State {
     pub last: Last,
 }
 
-impl Upload {
+// The numbers of an upload, without its waiting bytes: next address, how many bytes wait, erase count.
+pub struct Counts {
+    pub next: usize,
+    pub held: usize,
+    pub count: usize,
+}
+
+// All of a state but its two buffers, which a call is lent.
+pub struct Head {
+    pub address: Address,
+    pub running: bool,
+    pub counts: Counts,
+    // the last reply's length
+    pub len: usize,
+}
+
+impl Counts {
     // Where an accepted write at 0 begins: nothing accepted, nothing waiting, count 0.
     pub fn restarted(mut self) -> Self
-        ensures { λ r. ⌜ uploadOf r ≡ freshUpload ⌝ }
+        ensures { λ r. ⌜ ((w : List ℕ) → uploadOf (uploadWith r w) ≡ freshUpload) ⌝ }
     {
         self.next = 0;
         self.held = 0;
@@ -45,19 +63,69 @@ impl Upload {
     }
 }
 
-impl Last {
-    // Another reply; bytes of the buffer beyond it stay as they are.
-    pub fn replaced(mut self, reply: &[u8]) -> Self
-        requires { ⌜ length (now reply) ≤ largestFrame ⌝ }
-        ensures { λ r. ⌜ lastOf r ≡ now (reply .entry) ⌝ }
+impl Head {
+    // Set address.
+    pub fn with_address(self, address: Address) -> Self
+        ensures { λ r. ⌜ ((w l : List ℕ) → view (stateWith r w l) ≡ withAddress (view (stateWith self w l)) address) ⌝ }
     {
-        let mut i = 0;
-        while i < reply.len() {
-            self.bytes[i] = reply[i];
-            i += 1;
+        let running = self.running;
+        let counts = self.counts;
+        let len = self.len;
+        Self {
+            address,
+            running,
+            counts,
+            len,
         }
-        self.len = i;
+    }
+
+    // Write and finalize: another upload, whose waiting bytes begin the lent buffer w.
+    pub fn with_counts(mut self, counts: Counts) -> Self
+        ensures { λ r.
+            ⌜ ((before w l : List ℕ)
+            → view (stateWith r w l) ≡ withUpload (view (stateWith self before l)) (uploadOf (uploadWith counts w))) ⌝ }
+    {
+        self.counts = counts;
         self
+    }
+
+    // Start: running; waiting bytes are lost.
+    pub fn started(mut self) -> Self
+        ensures { λ r. ⌜ ((w l : List ℕ) → view (stateWith r w l) ≡ started (view (stateWith self w l)) [] .state) ⌝ }
+    {
+        self.running = true;
+        self.counts.held = 0;
+        self
+    }
+
+    // A reply of n bytes is the last one: only I²C keeps it. Its bytes go into the lent buffer l.
+    pub fn with_reply(mut self, bus: Bus, n: usize) -> Self
+        ensures { λ r.
+            ⌜ ((w l reply : List ℕ) → length reply ≡ n
+            → view (stateWith r w (keptReply bus reply l)) ≡ withReply bus (view (stateWith self w l)) reply) ⌝ }
+    {
+        match bus {
+            Bus::I2c => {
+                self.len = n;
+                self
+            }
+            Bus::Rs485 => self.without_reply(),
+        }
+    }
+
+    // No reply is the last one, on either bus.
+    pub fn without_reply(mut self) -> Self
+        ensures { λ r. ⌜ ((bus : Bus) (w l : List ℕ) → view (stateWith r w l) ≡ withReply bus (view (stateWith self w l)) []) ⌝ }
+    {
+        self.len = 0;
+        self
+    }
+
+    // Reset address: default range again, last reply none, upload kept.
+    pub fn address_reset(self) -> Self
+        ensures { λ r. ⌜ ((w l : List ℕ) → view (stateWith r w l) ≡ addressReset (view (stateWith self w l))) ⌝ }
+    {
+        self.without_reply().with_address(Address::DefaultRange)
     }
 }
 
@@ -91,65 +159,42 @@ impl State {
         }
     }
 
-    // Set address.
-    pub fn with_address(self, address: Address) -> Self
-        ensures { λ r. ⌜ view r ≡ withAddress (view self) address ⌝ }
+    // Its head.
+    pub fn head(self) -> Head
+        ensures { λ r. ⌜ stateWith r (self .upload .waiting) (self .last .bytes) ≡ self ⌝ }
     {
-        let running = self.running;
-        let upload = self.upload;
-        let last = self.last;
+        let address = self.address;
+        Head {
+            address,
+            running: self.running,
+            counts: Counts {
+                next: self.upload.next,
+                held: self.upload.held,
+                count: self.upload.count,
+            },
+            len: self.last.len,
+        }
+    }
+
+    // The state of a head and two buffers.
+    pub fn joined(
+        h: Head,
+        waiting: [u8; State::LARGEST_PAGE],
+        bytes: [u8; State::LARGEST_FRAME],
+    ) -> Self
+        ensures { λ r. ⌜ r ≡ stateWith h waiting bytes ⌝ }
+    {
+        let address = h.address;
         Self {
             address,
-            running,
-            upload,
-            last,
+            running: h.running,
+            upload: Upload {
+                next: h.counts.next,
+                held: h.counts.held,
+                count: h.counts.count,
+                waiting,
+            },
+            last: Last { len: h.len, bytes },
         }
-    }
-
-    // Write and finalize: another upload.
-    pub fn with_upload(mut self, upload: Upload) -> Self
-        ensures { λ r. ⌜ view r ≡ withUpload (view self) (uploadOf upload) ⌝ }
-    {
-        self.upload = upload;
-        self
-    }
-
-    // Start: running; waiting bytes are lost.
-    pub fn started(mut self) -> Self
-        ensures { λ r. ⌜ view r ≡ started (view self) [] .state ⌝ }
-    {
-        self.running = true;
-        self.upload.held = 0;
-        self
-    }
-
-    // A reply is the last one: only I²C keeps it.
-    pub fn with_reply(mut self, bus: Bus, reply: &[u8]) -> Self
-        requires { ⌜ length (now reply) ≤ largestFrame ⌝ }
-        ensures { λ r. ⌜ view r ≡ withReply bus (view self) (now (reply .entry)) ⌝ }
-    {
-        match bus {
-            Bus::I2c => {
-                let last = self.last;
-                self.last = last.replaced(reply);
-                self
-            }
-            Bus::Rs485 => self.without_reply(),
-        }
-    }
-
-    // No reply is the last one, on either bus.
-    pub fn without_reply(mut self) -> Self
-        ensures { λ r. ⌜ ((bus : Bus) → view r ≡ withReply bus (view self) []) ⌝ }
-    {
-        self.last.len = 0;
-        self
-    }
-
-    // Reset address: default range again, last reply none, upload kept.
-    pub fn address_reset(self) -> Self
-        ensures { λ r. ⌜ view r ≡ addressReset (view self) ⌝ }
-    {
-        self.without_reply().with_address(Address::DefaultRange)
     }
 }

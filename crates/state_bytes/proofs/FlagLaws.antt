@@ -1,6 +1,6 @@
 -- Laws of the first three bytes of a state: address kind, own address, running; each both ways.
 use mathlib.Core.Path.{_≡_, refl}
-use mathlib.Core.Bool.{Bool, true, false, cond}
+use mathlib.Core.Bool.{Bool, true, false}
 use Prim.Native.Nat.{ℕ, _≤_}
 use native.Mathlib.Omega.{arith}
 use lib.Dec.{eqb}
@@ -9,15 +9,15 @@ use Rattle.rules.specs.declared.kinds.Address.the-variants.{DefaultRange, Own}
 use Rattle.fields.proofs.Laws.{zero-or-one}
 use Rattle.state_bytes.specs.StateBytes.{addressOf, kindByte, ownByte, runningByte}
 
-pub addressOf-bytes : (a : Address) → addressOf (kindByte a) (ownByte a) ≡ a
-addressOf-bytes DefaultRange = refl
-addressOf-bytes (Own own) = refl
+pub addressOf-bytes : (a : Address) (before : ℕ) → addressOf (kindByte a) (ownByte a before) ≡ a
+addressOf-bytes DefaultRange before = refl
+addressOf-bytes (Own own) before = refl
 
 pub kindByte-addressOf : (kind own : ℕ) → kind ≤ 1 → kindByte (addressOf kind own) ≡ kind
 kindByte-addressOf kind own h = zero-or-one (λ (n : ℕ). kindByte (addressOf n own) ≡ n) kind h refl refl
 
-pub ownByte-addressOf : (kind own : ℕ) → kind ≤ 1 → ownByte (addressOf kind own) ≡ cond (eqb kind 0) 0 own
-ownByte-addressOf kind own h = zero-or-one (λ (n : ℕ). ownByte (addressOf n own) ≡ cond (eqb n 0) 0 own) kind h refl refl
+pub ownByte-addressOf : (kind own : ℕ) → kind ≤ 1 → ownByte (addressOf kind own) own ≡ own
+ownByte-addressOf kind own h = zero-or-one (λ (n : ℕ). ownByte (addressOf n own) own ≡ own) kind h refl refl
 
 pub running-byte : (running : Bool) → eqb (runningByte running) 1 ≡ running
 running-byte true = refl

@@ -1,4 +1,4 @@
--- The state in bytes: which bytes hold one, which state they say, and the bytes of a state.
+-- The state in bytes: which bytes hold one, which state they say, and what is written of a state.
 use mathlib.Core.Bool.{Bool, cond, _&&_}
 use mathlib.Core.List.{List, [], _∷_, _++_}
 use Prim.Native.Nat.{ℕ, _+_}
@@ -6,7 +6,9 @@ use lib.Dec.{eqb, leb}
 use lib.ListN.{length, getD}
 use Rattle.rules.specs.declared.kinds.Address.{Address}
 use Rattle.rules.specs.declared.kinds.Address.the-variants.{DefaultRange, Own}
+use Rattle.rules.specs.Bytes.{overlay}
 use Rattle.rules.specs.Numbers.{laid}
+use Rattle.rules.specs.State as rules
 use Rattle.state.specs.declared.State.{State}
 use Rattle.state.specs.View.{largestPage, largestFrame, zeroed, withHeld}
 use Rattle.byte_slices.specs.Four.{fourAt, fourBytes}
@@ -36,10 +38,10 @@ abbrev pub kindByte : Address → ℕ
 kindByte DefaultRange = 0
 kindByte (Own own) = 1
 
--- in the default range the own address is written as 0
-abbrev pub ownByte : Address → ℕ
-ownByte DefaultRange = 0
-ownByte (Own own) = own
+-- in the default range byte 1, which means nothing there, stays as it was
+abbrev pub ownByte : Address → ℕ → ℕ
+ownByte DefaultRange before = before
+ownByte (Own own) before = own
 
 abbrev pub runningByte : Bool → ℕ
 runningByte running = cond running 1 0
@@ -61,19 +63,19 @@ noState = withHeld zeroed 1
 unfoldable pub stateAt : List ℕ → State
 stateAt b = cond (stateHeld b) (stateSaid b) noState
 
--- all but the two buffers; byte 3 is written as 0
-abbrev pub headBytes : State → List ℕ
-headBytes s =
-    (kindByte (s .address) ∷ ownByte (s .address) ∷ runningByte (s .running) ∷ 0 ∷ [])
+-- the first bytes, over those of b: all of a state but its waiting bytes and its last reply; byte 3 stays as it was
+abbrev pub headBytes : rules.State → List ℕ → List ℕ
+headBytes s b =
+    (kindByte (s .address) ∷ ownByte (s .address) (getD b 1 0) ∷ runningByte (s .running) ∷ getD b 3 0 ∷ [])
     ++ fourBytes (s .upload .next)
-    ++ fourBytes (s .upload .held)
+    ++ fourBytes (length (s .upload .waiting))
     ++ fourBytes (s .upload .count)
-    ++ fourBytes (s .last .len)
+    ++ fourBytes (length (s .last))
 
--- the bytes of a state
-unfoldable pub stateBytes : State → List ℕ
-stateBytes s = headBytes s ++ s .upload .waiting ++ s .last .bytes
+-- these laid over a buffer
+abbrev pub headWritten : rules.State → List ℕ → List ℕ
+headWritten s b = laid (headBytes s b) b
 
--- a buffer after a state was written into it; one that is too short stays as it was
-unfoldable pub stateWritten : State → List ℕ → List ℕ
-stateWritten s b = cond (leb stateSize (length b)) (laid (stateBytes s) b) b
+-- a buffer after a state was written into it: the waiting bytes, the last reply, the first bytes; every byte that means nothing stays
+unfoldable pub stateWritten : rules.State → List ℕ → List ℕ
+stateWritten s b = headWritten s (overlay (overlay b waitingFrom (s .upload .waiting)) replyFrom (s .last))

@@ -1,17 +1,17 @@
-// The state in bytes, as it crosses the C boundary: include/childbus.h has the layout as a table, specs/ as definitions.
-// Bytes that hold no state read as a malformed state, so that the board's own test answers them.
+// The state in bytes, as it crosses the C boundary: include/childbus.h has the layout as a table, specs/ as definitions. Its head is read
+// from them; the waiting bytes and the last reply stay where they are. Bytes that hold no state read as a malformed one, so that the
+// board's own test answers them.
 use byte_slices::four_at;
 use rules::kinds::Address;
-use state::Last;
+use state::Counts;
+use state::Head;
 use state::State;
-use state::Upload;
 ghost use mathlib.Core.Path.{_≡_};
 ghost use Prim.Native.Nat.{_≤_};
 ghost use lib.ListN.{length};
-ghost use Rattle.state.specs.View.{largestPage, largestFrame};
-ghost use Rattle.fields.specs.Fields.{part};
+ghost use Rattle.state.specs.Heads.{headOf};
 ghost use Rattle.state_bytes.specs.BothWays.{BothWays};
-ghost use Rattle.state_bytes.specs.StateBytes.{waitingFrom, replyFrom, stateSize, stateSaid, noState, stateAt, addressOf};
+ghost use Rattle.state_bytes.specs.StateBytes.{stateSize, stateSaid, noState, stateAt, addressOf};
 
 // Where the buffer of the waiting bytes begins, that of the last reply, and how many bytes a state takes.
 pub const WAITING_AT: usize = 20;
@@ -31,75 +31,51 @@ fn address_of(kind: u8, own: u8) -> Address
     }
 }
 
-fn waiting_at(b: &[u8]) -> [u8; State::LARGEST_PAGE]
+// The head of the state that bytes hold.
+fn head_said(b: &[u8]) -> Head
     requires { ⌜ stateSize ≤ length (now b) ⌝ }
-    ensures { λ r. ⌜ r ≡ part (now (b .entry)) waitingFrom largestPage ⌝ }
+    ensures { λ r. ⌜ r ≡ headOf (stateSaid (now (b .entry))) ⌝ }
 {
-    let mut waiting = [0u8; State::LARGEST_PAGE];
-    byte_slices::store(&mut waiting, 0, &b[WAITING_AT..REPLY_AT]);
-    waiting
-}
-
-fn reply_at(b: &[u8]) -> [u8; State::LARGEST_FRAME]
-    requires { ⌜ stateSize ≤ length (now b) ⌝ }
-    ensures { λ r. ⌜ r ≡ part (now (b .entry)) replyFrom largestFrame ⌝ }
-{
-    let mut reply = [0u8; State::LARGEST_FRAME];
-    byte_slices::store(&mut reply, 0, &b[REPLY_AT..STATE_BYTES]);
-    reply
-}
-
-// The state of bytes that hold one.
-fn state_said(b: &[u8]) -> State
-    requires { ⌜ stateSize ≤ length (now b) ⌝ }
-    ensures { λ r. ⌜ r ≡ stateSaid (now (b .entry)) ⌝ }
-{
-    let waiting = waiting_at(b);
-    let bytes = reply_at(b);
-    State {
+    Head {
         address: address_of(b[0], b[1]),
         running: b[2] == 1,
-        upload: Upload {
+        counts: Counts {
             next: four_at(b, 4),
             held: four_at(b, 8),
             count: four_at(b, 12),
-            waiting,
         },
-        last: Last {
-            len: four_at(b, 16),
-            bytes,
-        },
+        len: four_at(b, 16),
     }
 }
 
 // No board is in it: a byte waits before any was accepted.
-fn no_state() -> State
-    ensures { λ r. ⌜ r ≡ noState ⌝ }
+fn no_head() -> Head
+    ensures { λ r. ⌜ r ≡ headOf noState ⌝ }
 {
-    let mut s = State::fresh();
-    s.upload.held = 1;
-    s
+    let mut h = State::fresh().head();
+    h.counts.held = 1;
+    h
 }
 
-// The state that bytes say.
-pub fn state_from(b: &[u8]) -> State
-    ensures { λ r. ⌜ r ≡ stateAt (now (b .entry)) ⌝ }
+// The head of the state that bytes say.
+pub fn head_from(b: &[u8]) -> Head
+    ensures { λ r. ⌜ r ≡ headOf (stateAt (now (b .entry))) ⌝ }
 {
     if b.len() < STATE_BYTES {
-        return no_state();
+        return no_head();
     }
     let kind = b[0];
     if 1 < kind {
-        return no_state();
+        return no_head();
     }
     let running = b[2];
     if 1 < running {
-        return no_state();
+        return no_head();
     }
-    state_said(b)
+    head_said(b)
 }
 
-// The layout loses nothing that a board can hold.
+// The layout loses nothing that a board can hold, and keeps every byte that means nothing.
 pub fn both_ways()
     ensures { λ _. ⌜ BothWays ⌝ }
 {}

@@ -1,16 +1,22 @@
-// Writes the state into its bytes. The layout, and reading it, is `state_bytes`.
+// Writes what a call leaves of the state into its bytes: the head, and the last reply; the waiting bytes stand there already. Bytes that
+// mean nothing stay as they were. The layout, and reading it, is `state_bytes`.
+use answer::keep_reply;
 use byte_slices::store_four;
 use rules::kinds::Address;
-use state::State;
+use rules::kinds::Bus;
+use state::Head;
 use state_bytes::REPLY_AT;
 use state_bytes::STATE_BYTES;
-use state_bytes::WAITING_AT;
 ghost use mathlib.Core.Path.{_≡_};
-ghost use Prim.Native.Nat.{_≤_};
-ghost use lib.ListN.{length};
+ghost use mathlib.Core.List.{List};
+ghost use Prim.Native.Nat.{ℕ, _≤_};
+ghost use lib.ListN.{length, take, replicate};
+ghost use Rattle.rules.specs.Bytes.{overlay};
 ghost use Rattle.rules.specs.Numbers.{laid};
-ghost use Rattle.state_bytes.specs.StateBytes.{stateSize, kindByte, ownByte, runningByte};
-ghost use Rattle.state_bytes.specs.StateBytes.{headBytes, stateWritten};
+ghost use Rattle.state.specs.View.{largestFrame, view};
+ghost use Rattle.state.specs.Heads.{stateWith, keptReply};
+ghost use Rattle.fields.specs.Fields.{part};
+ghost use Rattle.state_bytes.specs.StateBytes.{replyFrom, stateSize, kindByte, ownByte, runningByte, headWritten};
 
 fn kind_byte(a: Address) -> u8
     ensures { λ r. ⌜ r ≡ kindByte a ⌝ }
@@ -21,11 +27,12 @@ fn kind_byte(a: Address) -> u8
     }
 }
 
-fn own_byte(a: Address) -> u8
-    ensures { λ r. ⌜ r ≡ ownByte a ⌝ }
+// In the default range the byte stays as it was.
+fn own_byte(a: Address, before: u8) -> u8
+    ensures { λ r. ⌜ r ≡ ownByte a before ⌝ }
 {
     match a {
-        Address::DefaultRange => 0,
+        Address::DefaultRange => before,
         Address::Own(own) => own,
     }
 }
@@ -36,35 +43,46 @@ fn running_byte(running: bool) -> u8
     if running { 1 } else { 0 }
 }
 
-// Writes all of a state but its two buffers.
-fn store_head(s: State, b: &mut [u8])
+// Writes the head of a state, whatever the two buffers hold.
+pub fn head_to(h: Head, b: &mut [u8])
     requires { ⌜ stateSize ≤ length (now b) ⌝ }
-    ensures { λ _. ⌜ now (b .exit) ≡ laid (headBytes s) (now (b .entry)) ⌝ }
+    ensures { λ _. ⌜ ((w l : List ℕ) → now (b .exit) ≡ headWritten (view (stateWith h w l)) (now (b .entry))) ⌝ }
 {
-    let address = s.address;
+    let address = h.address;
     let flags = [
         kind_byte(address),
-        own_byte(address),
-        running_byte(s.running),
-        0,
+        own_byte(address, b[1]),
+        running_byte(h.running),
+        b[3],
     ];
     byte_slices::store(b, 0, &flags);
-    store_four(b, 4, s.upload.next);
-    store_four(b, 8, s.upload.held);
-    store_four(b, 12, s.upload.count);
-    store_four(b, 16, s.last.len);
+    store_four(b, 4, h.counts.next);
+    store_four(b, 8, h.counts.held);
+    store_four(b, 12, h.counts.count);
+    store_four(b, 16, h.len);
 }
 
-// Writes a state into the first bytes of a buffer; one that is too short stays as it was.
-pub fn state_to(s: State, b: &mut [u8])
-    ensures { λ _. ⌜ now (b .exit) ≡ stateWritten s (now (b .entry)) ⌝ }
+// Writes the last reply, of which n bytes were made in the lent output, and the head.
+pub fn write_back(bus: Bus, h: Head, n: usize, out: &[u8], b: &mut [u8])
+    requires { ⌜ stateSize ≤ length (now b) ⌝ }
+    requires { ⌜ (n ≤ length (now out)) × (n ≤ largestFrame) ⌝ }
+    ensures { λ _.
+        ⌜ ((w l : List ℕ) → now (b .exit) ≡ headWritten (view (stateWith h w l))
+        (overlay (now (b .entry)) replyFrom
+        (keptReply bus (take n (now (out .entry))) (part (now (b .entry)) replyFrom largestFrame)))) ⌝ }
 {
-    if b.len() < STATE_BYTES {
-        return;
+    keep_reply(bus, n, out, &mut b[REPLY_AT..STATE_BYTES]);
+    head_to(h, b);
+}
+
+// Writes zeros into all bytes of a state.
+pub fn clear(b: &mut [u8])
+    requires { ⌜ stateSize ≤ length (now b) ⌝ }
+    ensures { λ _. ⌜ now (b .exit) ≡ laid (replicate stateSize 0) (now (b .entry)) ⌝ }
+{
+    let mut i = 0;
+    while i < STATE_BYTES {
+        b[i] = 0;
+        i += 1;
     }
-    store_head(s, b);
-    let waiting = s.upload.waiting;
-    byte_slices::store(b, WAITING_AT, &waiting);
-    let bytes = s.last.bytes;
-    byte_slices::store(b, REPLY_AT, &bytes);
 }

@@ -1,5 +1,6 @@
 //! The second program's rules and the library side by side: one item at a time, everything compared.
 
+use crate::dead::Compared;
 use crate::items::*;
 use crate::layout::*;
 use crate::library::{self, Lent};
@@ -10,6 +11,7 @@ use rules::board;
 use rules::ledger::{event, Seen};
 use rules::master::{self, Request, RESET_ADDRESS_CALL, RESET_CALL};
 use rules::model::*;
+use rules::rng::Rng;
 use rules::script::{fnv, hex, tally_text, UNTOUCHED};
 use rules::tally::Tally as Counters;
 
@@ -48,9 +50,10 @@ struct Board {
     made_under: Option<u32>,
 }
 
-/// What the second program's board was before a call.
+/// What the second program's board was before a call, and the library's state buffer.
 struct Before {
     state: Option<State>,
+    state_bytes: Vec<u8>,
     counters: Option<Counters>,
 }
 
@@ -117,6 +120,7 @@ impl Pair {
             Item::ResetRunning(a) => self.reset_running(a, self.board.room)?,
             Item::AsideResetRunning(a, room) => self.reset_running(a, *room)?,
             Item::AsideFresh(len) => self.fresh(&vec![UNTOUCHED; *len]).map(|_| ())?,
+            Item::Noise(seed) => self.board.noise(*seed),
         }
         Ok(())
     }
@@ -141,18 +145,15 @@ impl Pair {
         let mut lent = Lent::new(given);
         let number = library::fresh(&mut lent);
         let wanted = if given.len() < STATE_BYTES { 4 } else { 0 };
+        let mut due = given.to_vec();
+        if wanted == 0 {
+            due[..STATE_BYTES].fill(0);
+        }
         let now = lent.bytes();
-        let right = match number {
-            0 => {
-                let fresh = state_of(now).is_some_and(|s| same_state(&s, &State::fresh()));
-                fresh && now[STATE_BYTES..] == given[STATE_BYTES..]
-            }
-            _ => now == given,
-        };
-        if number != wanted || !right || !lent.guarded() {
+        if number != wanted || now != due || !lent.guarded() {
             let what = if number != wanted { "the number" } else { "the state buffer" };
-            let library = format!("Z {number} {}", hex(now));
-            return Err(Difference { what: what.to_string(), second: format!("Z {wanted}"), library });
+            let (second, library) = (format!("Z {wanted} {}", hex(&due)), format!("Z {number} {}", hex(now)));
+            return Err(Difference::of(what, second, library));
         }
         self.tally.call(Kind::Fresh, number);
         Ok(lent)
@@ -446,6 +447,16 @@ impl Board {
         }
     }
 
+    /// Random bytes in the library's state where it means nothing.
+    fn noise(&mut self, seed: u32) {
+        let mut bytes = self.lent_state.bytes().to_vec();
+        let noise = Rng::new(u64::from(seed)).bytes(bytes.len());
+        for place in self.state.iter().flat_map(|s| dead(s, noise.len())) {
+            bytes[place.clone()].copy_from_slice(&noise[place]);
+        }
+        self.lent_state = Lent::new(&bytes);
+    }
+
     /// After a received frame that was answered 0 or 1 the state is this page's.
     fn made(&mut self, call: &BoardCall, number: u32) {
         if let (Some(p), BoardCall::Receive { .. }, 0 | 1) = (&self.profile, call, number) {
@@ -454,7 +465,8 @@ impl Board {
     }
 
     fn before(&self) -> Before {
-        Before { state: self.state.clone(), counters: self.counters }
+        let state_bytes = self.lent_state.bytes().to_vec();
+        Before { state: self.state.clone(), state_bytes, counters: self.counters }
     }
 
     fn count(&self, tally: &mut Tally, before: &Before, call: &BoardCall, number: u32, reply: &[u8]) {
@@ -474,6 +486,7 @@ impl Board {
         if let Some(after) = &self.state {
             let (page_byte, made_under) = (self.profile_bytes[PAGE_BYTE], self.made_under);
             tally.pages.called(&Called { p, page_byte, made_under, before: s, after, call, number, reply });
+            tally.dead.compared(&Compared { p, before: s, after, given: &before.state_bytes, call, number });
         }
         if let BoardCall::Receive { address, frame, counted } = call {
             tally.address_edges.received(p, s, *address, frame, number, reply);
@@ -566,20 +579,26 @@ impl Board {
         }
     }
 
-    /// The very bytes where the state may not change, else its meaning; nothing past its bytes.
+    /// Every byte: as it was given where the state may not change, else the second program's state laid over what was given.
     fn state_fault(&self, given: &[u8], kept: bool) -> Option<String> {
         let now = self.lent_state.bytes();
-        if kept {
-            return bytes_fault("state", given, now);
-        }
-        let same = match (&self.state, state_of(now)) {
-            (Some(second), Some(library)) => same_state(second, &library),
-            _ => false,
+        let Some(second) = self.state.as_ref().filter(|_| !kept) else {
+            let k = given.iter().zip(now).position(|(a, b)| a != b)?;
+            return Some(format!(
+                "state byte {k}, which may not change: {:02x} before the call, library {:02x}",
+                given[k], now[k]
+            ));
         };
-        if !same {
-            return Some("the state".to_string());
+        let mut due = given.to_vec();
+        lay(&mut due, second);
+        let k = due.iter().zip(now).position(|(a, b)| a != b)?;
+        match dead_name(second, k) {
+            None => bytes_fault("state", &due, now),
+            Some(name) => Some(format!(
+                "state byte {k}, which means nothing ({name}): {:02x} before the call, library {:02x}",
+                due[k], now[k]
+            )),
         }
-        bytes_fault("past the state", given.get(STATE_BYTES..)?, now.get(STATE_BYTES..)?)
     }
 
     /// The counters where there is a tally; every other byte as it was given.

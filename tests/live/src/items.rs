@@ -50,6 +50,8 @@ pub enum Item {
     AsideResetRunning(ResetRunning, usize),
     /// The fresh state in a buffer of this length.
     AsideFresh(usize),
+    /// Random bytes of this seed where the state in use means nothing.
+    Noise(u32),
 }
 
 #[derive(Clone, Debug)]
@@ -144,6 +146,7 @@ impl Item {
             Item::AsideVersion { major, minor } => format!("#! V {major} {minor}"),
             Item::AsideResetRunning(a, room) => format!("#! {} {room}", a.text()),
             Item::AsideFresh(len) => format!("#! Z {len}"),
+            Item::Noise(seed) => format!("#! N {seed}"),
         }
     }
 }
@@ -318,6 +321,7 @@ fn aside(letter: &str, f: &[&str]) -> Result<Item, String> {
             Item::AsideResetRunning(reset_running(call, all, all)?, number(room, MOST_ROOM as u32)? as usize)
         }
         ("Z", [len]) => Item::AsideFresh(number(len, 1000)? as usize),
+        ("N", [seed]) => Item::Noise(number(seed, all)?),
         _ => return Err(format!("no `#!` line of letter `{letter}` has these fields")),
     })
 }

@@ -3,14 +3,15 @@
 use rules::model::*;
 use rules::rng::Rng;
 use rules::tally::Tally as Counters;
+use std::ops::Range;
 
 pub const PROFILE_BYTES: usize = 36;
 pub const STATE_BYTES: usize = 404;
 pub const TALLY_BYTES: usize = 10;
 /// Places in the profile and in the state.
 pub const PAGE_BYTE: usize = 6;
-const WAITING: std::ops::Range<usize> = 20..148;
-const REPLY: std::ops::Range<usize> = 148..STATE_BYTES;
+const WAITING: Range<usize> = 20..148;
+const REPLY: Range<usize> = 148..STATE_BYTES;
 
 /// The profile in bytes. Ignored bytes, and up to three past the end, hold anything.
 pub fn profile_bytes(p: &Profile) -> Vec<u8> {
@@ -81,6 +82,14 @@ pub fn profile_of(b: &[u8]) -> Option<Profile> {
 pub fn state_bytes(s: &State) -> Vec<u8> {
     let mut rng = Rng::new(u64::from(s.next) ^ u64::from(s.w) << 20 ^ u64::from(s.waiting[0]) << 32);
     let mut b = anything(&mut rng, STATE_BYTES);
+    b[WAITING].copy_from_slice(&s.waiting);
+    b[REPLY].copy_from_slice(&s.reply);
+    lay(&mut b, s);
+    b
+}
+
+/// Lays the state over the bytes. Those that mean nothing stay as they are.
+pub fn lay(b: &mut [u8], s: &State) {
     match s.own {
         Own::DefaultRange => b[0] = 0,
         Own::Address(address) => {
@@ -89,13 +98,33 @@ pub fn state_bytes(s: &State) -> Vec<u8> {
         }
     }
     b[2] = u8::from(s.running);
-    put(&mut b, 4, s.next);
-    put(&mut b, 8, s.w);
-    put(&mut b, 12, s.count);
-    put(&mut b, 16, s.reply_len);
-    b[WAITING].copy_from_slice(&s.waiting);
-    b[REPLY].copy_from_slice(&s.reply);
-    b
+    put(b, 4, s.next);
+    put(b, 8, s.w);
+    put(b, 12, s.count);
+    put(b, 16, s.reply_len);
+    let (waiting, reply) = (s.waiting_bytes(), s.last_reply());
+    b[WAITING][..waiting.len()].copy_from_slice(waiting);
+    b[REPLY][..reply.len()].copy_from_slice(reply);
+}
+
+/// Where the state's buffer means nothing: byte 3, the own address in the default range, behind w, behind the last reply, and past
+/// the state.
+pub fn dead(s: &State, len: usize) -> [Range<usize>; 5] {
+    let own = usize::from(s.own == Own::DefaultRange);
+    let (waiting, reply) = (s.waiting_bytes().len(), s.last_reply().len());
+    [3..4, 1..1 + own, WAITING.start + waiting..WAITING.end, REPLY.start + reply..REPLY.end, STATE_BYTES..len]
+}
+
+/// Why a byte of the buffer means nothing in this state; none if it means something.
+pub fn dead_name(s: &State, at: usize) -> Option<String> {
+    let k = dead(s, usize::MAX).iter().position(|place| place.contains(&at))?;
+    Some(match k {
+        0 => "in no state".to_string(),
+        1 => "the own address in the default range".to_string(),
+        2 => format!("waiting byte {} with w {}", at - WAITING.start, s.w),
+        3 => format!("reply byte {} of a last reply of {}", at - REPLY.start, s.reply_len),
+        _ => "past its end".to_string(),
+    })
 }
 
 /// The state that the bytes say; none if they are too few, or address kind or running byte is above 1 (number 4).

@@ -21,7 +21,25 @@ pub fn list(seed: u64, k: u64) -> Vec<Item> {
         _ => cases::random(rng.number(), 1).cases,
     };
     let items = parse(&text).expect("the generator writes good lines");
-    with_more(&mut rng, items)
+    let items = with_more(&mut rng, items);
+    with_noise(&mut Rng::new(rng.number()), items)
+}
+
+/// Three lists of four with random bytes where their states mean nothing: from the start, behind most lines that set a state, and
+/// now and then in between.
+fn with_noise(rng: &mut Rng, items: Vec<Item>) -> Vec<Item> {
+    if rng.percent(25) {
+        return items;
+    }
+    let mut list = vec![Item::Noise(rng.number() as u32)];
+    for item in items {
+        let sets = matches!(item, Item::Fresh | Item::State(_));
+        list.push(item);
+        if rng.percent(if sets { 80 } else { 5 }) {
+            list.push(Item::Noise(rng.number() as u32));
+        }
+    }
+    list
 }
 
 /// A whole upload, then the same image in other pieces, with other calls in between.

@@ -5,6 +5,7 @@ mod address_edges;
 #[allow(dead_code)]
 mod cases;
 mod compare;
+mod dead;
 mod half_bytes;
 mod items;
 mod layout;

@@ -283,6 +283,7 @@ fn simpler(item: &Item, profile: Option<&Profile>) -> Vec<Item> {
             let simpler = resets(a).into_iter().map(|other| Item::AsideResetRunning(other, *room));
             simpler.chain([0, 1, 3, 4].map(|room| Item::AsideResetRunning(a.clone(), room))).collect()
         }
+        Item::Noise(_) => (0..3).map(Item::Noise).collect(),
         _ => Vec::new(),
     }
 }

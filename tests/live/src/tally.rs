@@ -1,6 +1,7 @@
 //! What was compared: calls of each kind by number, and what happened in them. (The board's own tally is in `silences`.)
 
 use crate::address_edges::AddressEdges;
+use crate::dead::Dead;
 use crate::half_bytes::HalfBytes;
 use crate::pages::Pages;
 use crate::running::Running;
@@ -75,6 +76,7 @@ pub struct Tally {
     pub running: Running,
     pub silences: Silences,
     pub pages: Pages,
+    pub dead: Dead,
 }
 
 /// The place of a number in `NUMBERS`.
@@ -172,6 +174,7 @@ impl Tally {
         lines.extend(self.running.lines());
         lines.extend(self.silences.lines());
         lines.extend(self.pages.lines());
+        lines.push(self.dead.line());
         lines.push(format!("calls with buffers of their own {}, longest flash {}", self.aside, self.most_flash));
         lines
     }
@@ -191,6 +194,7 @@ impl Tally {
         missing.extend(self.running.missing());
         missing.extend(self.silences.missing());
         missing.extend(self.pages.missing());
+        missing.extend(self.dead.missing());
         missing
     }
 }

@@ -1,14 +1,15 @@
 -- `answer::fault` meets its contract: a response with no results lays nothing over the buffer.
-use Rattle.laws.proofs.SizeLaws.{shortestReply-le}
-use Rattle.state.specs.View.{view}
-use Rattle.laws.proofs.BytesLaws.{overlay-none}
-use Rattle.rules.specs.Responses.{replying}
-use Prim.Native.Nat.{_+_}
-use Rattle.rules.specs.Frames.{headerLength}
+use mathlib.Core.Path.{refl}
 use mathlib.Core.List.{[]}
+use Prim.Native.Nat.{_+_}
 use native.Mathlib.Omega.{arith}
-use mathlib.Core.Path.{_≡_, refl, sym, ap, _∙_}
 use borrow.Author.Needs.{needs}
+use Rattle.rules.specs.Frames.{headerLength}
+use Rattle.rules.specs.Responses.{replying}
+use Rattle.laws.proofs.SizeLaws.{shortestReply-le}
+use Rattle.laws.proofs.BytesLaws.{overlay-none}
+use Rattle.state.specs.View.{view}
+use Rattle.state.specs.Heads.{stateWith}
 use Rattle.answer.proofs.fault.Statement.{statement}
 use Rattle.answer.proofs.fault.Tie as tie
 
@@ -22,9 +23,10 @@ same-length c = search needs
 
 returns : tie.Need-returns
 returns c =
-    let st = c .before .before .before .before .before in
-    λ d.
-    c .before .before .respond .ensures (replying (view (st .args .s)) d (st .args .status) []) d (st .args .out .now) refl
+    let respond = c .before .before in
+    let st = respond .before .before .before in
+    λ w l d.
+    respond .respond .ensures (replying (view (stateWith (st .args .h) w l)) d (st .args .status) []) w l d (st .args .out .now) refl
     (rw (overlay-none (st .args .out .now) (headerLength (st .args .bus) + 2)))
 
 pub fault-spec : {M : Type 1} → statement M

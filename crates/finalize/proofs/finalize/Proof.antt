@@ -1,11 +1,13 @@
 -- `finalize::finalize` meets its contract: nothing waiting leaves all as it is, else the waiting bytes lie in one page and are committed
 -- there. By `finalized-none`, `finalized-some` and `committed-counted`.
 use mathlib.Core.Path.{_≡_, refl, sym, _∙_}
+use mathlib.Core.List.{append-nil}
 use native.Mathlib.Omega.{arith}
-use lib.ListN.{length, length-take}
+use lib.ListN.{length, take, length-take}
 use borrow.Author.Needs.{needs}
 use Rattle.laws.proofs.UploadLaws.{sub-mod}
 use Rattle.state.specs.View.{largestPage}
+use Rattle.state.specs.Heads.{uploadWith}
 use Rattle.profile.specs.View.{profileOf}
 use Rattle.commit.proofs.Laws.{ready-bounds, fitting, committed-counted, finalized-none, finalized-some, finalized-formed}
 use Rattle.finalize.proofs.finalize.Statement.{statement}
@@ -13,41 +15,33 @@ use Rattle.finalize.proofs.finalize.Tie as tie
 
 returns : tie.Need-returns
 returns c =
-    let start = c .before .before in
-    let u = start .args .u in (
+    let start = c .before .before .before in
+    let u = uploadWith (start .args .u) (start .args .waiting .now) in (
       sym (finalized-none (profileOf (start .args .p)) u (start .args .flash .now) (c .if1 .taken)),
-      record { formed = start .pre .formed; next-is = refl },
+      record { formed = start .pre .0 .formed; next-is = refl },
     )
 
 sub-commit-counted : tie.Need-sub-commit-counted
 sub-commit-counted c =
-    let b = ready-bounds (c .before .before .before .before .pre) in
+    let b = ready-bounds (c .before .before .before .before .pre .0) in
     omega arith
 
 add-commit-counted : tie.Need-add-commit-counted
 add-commit-counted c =
-    let b = ready-bounds (c .before .before .before .before .pre) in
-    omega arith
-
-array-share-prefix-waiting : tie.Need-array-share-prefix-waiting
-array-share-prefix-waiting c =
-    let start = c .before .before .before .before in
-    let b = ready-bounds (start .pre) in
-    let h : length (start .args .u .waiting) ≡ largestPage = search needs in
+    let b = ready-bounds (c .before .before .before .before .pre .0) in
     omega arith
 
 slice-aggregate-commit-counted : tie.Need-slice-aggregate-commit-counted
 slice-aggregate-commit-counted c =
-    let start = c .before .before .before .before .before in
-    let b = ready-bounds (start .pre) in
-    let h : length (start .args .u .waiting) ≡ largestPage = search needs in
+    let b = ready-bounds (c .before .before .before .before .before .pre .0) in
     simp length-take (omega arith)
+
+slice-aggregate-commit-counted-2 : tie.Need-slice-aggregate-commit-counted-2
+slice-aggregate-commit-counted-2 c = search needs
 
 commit-counted-requires : tie.Need-commit-counted-requires
 commit-counted-requires c κs =
-    let start = c .before .before .before .before .before in
-    let b = ready-bounds (start .pre) in
-    let h : length (start .args .u .waiting) ≡ largestPage = search needs in
+    let b = ready-bounds (c .before .before .before .before .before .before .pre .0) in
     simp length-take (omega arith)
 
 same-length : tie.Need-same-length
@@ -55,18 +49,18 @@ same-length c = search needs
 
 returns-2 : tie.Need-returns-2
 returns-2 c =
-    let start = c .before .before .before .before .before .before .before .before in
+    let commit-counted = c .before .before in
+    let if1 = commit-counted .before .before .before .before in
+    let start = if1 .before .before .before in
     let p = start .args .p in
-    let u = start .args .u in
+    let u = uploadWith (start .args .u) (start .args .waiting .now) in
     let d = start .args .flash .now in
-    let b = ready-bounds (start .pre) in
-    let some = c .before .before .before .before .before .before .if1 .left in
+    let b = ready-bounds (start .pre .0) in
     let place = sub-mod (profileOf p .page) (u .next) (u .held) (b .profile .page-least) (b .held .held-most) in
-    let lies = fitting p u d (b .profile) (start .pre .flash-holds) (b .held .next-most) (omega arith) (omega arith) in
-    let h : length (u .waiting) ≡ largestPage = search needs in
-    let done =
-    sym (finalized-some (profileOf p) u d some ∙ committed-counted p u lies (omega arith) (c .before .before .commit-counted .ensures)) in
-    (done, finalized-formed d (start .pre) _ done)
+    let lies = fitting p u d (b .profile) (start .pre .0 .flash-holds) (b .held .next-most) (omega arith) (omega arith) in
+    let settled = rw (append-nil (take (u .held) (u .waiting))) at (commit-counted .commit-counted .ensures) in
+    let done = sym (finalized-some (profileOf p) u d (if1 .if1 .left) ∙ committed-counted p u lies (omega arith) settled) in
+    (done, finalized-formed d (start .pre .0) _ done)
 
 pub finalize-spec : {M : Type 1} → statement M
 finalize-spec =
@@ -75,8 +69,8 @@ finalize-spec =
     returns
     sub-commit-counted
     add-commit-counted
-    array-share-prefix-waiting
     slice-aggregate-commit-counted
+    slice-aggregate-commit-counted-2
     commit-counted-requires
     same-length
     returns-2)

@@ -4,6 +4,7 @@ use native.Mathlib.Omega.{arith}
 use native.Mathlib.Nat.{mod-le}
 use borrow.Author.Needs.{needs}
 use borrow.Author.Tests.{le-leb, lt-leb}
+use Rattle.state.specs.Heads.{uploadWith}
 use Rattle.state.proofs.Laws.{uploadFormed-held}
 use Rattle.formed.proofs.upload_formed.Statement.{statement}
 use Rattle.formed.proofs.upload_formed.Tie as tie
@@ -11,7 +12,7 @@ use Rattle.formed.proofs.upload_formed.Tie as tie
 returns : tie.Need-returns
 returns c =
     let args = c .before .args in
-    rw (uploadFormed-held (args .page) (args .size) (args .u), lt-leb _ _ (c .if1 .taken))
+    λ w. rw (uploadFormed-held (args .page) (args .size) (uploadWith (args .u) w), lt-leb _ _ (c .if1 .taken))
 
 rem-if2 : tie.Need-rem-if2
 rem-if2 c = search needs
@@ -19,7 +20,12 @@ rem-if2 c = search needs
 returns-2 : tie.Need-returns-2
 returns-2 c =
     let args = c .before .before .args in
-    rw (uploadFormed-held (args .page) (args .size) (args .u), le-leb _ _ (c .before .if1 .left), lt-leb _ _ (c .if2 .taken))
+    λ w.
+    rw (
+      uploadFormed-held (args .page) (args .size) (uploadWith (args .u) w),
+      le-leb _ _ (c .before .if1 .left),
+      lt-leb _ _ (c .if2 .taken),
+    )
 
 sub-result : tie.Need-sub-result
 sub-result c =
@@ -29,7 +35,12 @@ sub-result c =
 returns-3 : tie.Need-returns-3
 returns-3 c =
     let args = c .before .before .before .args in
-    rw (uploadFormed-held (args .page) (args .size) (args .u), le-leb _ _ (c .before .before .if1 .left), le-leb _ _ (c .before .if2 .left))
+    λ w.
+    rw (
+      uploadFormed-held (args .page) (args .size) (uploadWith (args .u) w),
+      le-leb _ _ (c .before .before .if1 .left),
+      le-leb _ _ (c .before .if2 .left),
+    )
 
 pub upload-formed-spec : {M : Type 1} → statement M
 upload-formed-spec = tie.close (tie.spec returns rem-if2 returns-2 sub-result returns-3)

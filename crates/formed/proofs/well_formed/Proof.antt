@@ -5,9 +5,10 @@ use lib.ListN.{length}
 use borrow.Author.Needs.{needs}
 use borrow.Author.Tests.{le-leb}
 use Rattle.rules.specs.State.{wellFormed}
-use Rattle.laws.proofs.StateLaws.{inRange-facts}
-use Rattle.state.specs.View.{lastOf}
-use Rattle.state.proofs.Laws.{length-last}
+use Rattle.laws.proofs.StateLaws.{inRange-facts, length-used}
+use mathlib.Core.List.{List}
+use Prim.Native.Nat.{ℕ}
+use Rattle.rules.specs.State.{used}
 use Rattle.profile.specs.View.{profileOf}
 use Rattle.profile.proofs.Laws.{answered-false, answered-true}
 use Rattle.formed.proofs.Laws.{replyFormed-long}
@@ -21,17 +22,19 @@ upload-formed-requires c κs =
 
 returns : tie.Need-returns
 unfolding wellFormed
-returns c = rw (answered-false (c .before .upload-formed .ensures) (c .if1 .taken))
+returns c = λ w l. rw (answered-false (c .before .upload-formed .ensures w) (c .if1 .taken))
 
 returns-2 : tie.Need-returns-2
 unfolding wellFormed
 returns-2 c =
     let uploaded = c .before .before in
     let args = uploaded .before .before .before .args in
-    let long : args .p .longest < length (lastOf (args .s .last)) = rw (length-last (args .s .last)) (c .if2 .taken) in
+    let long : (l : List ℕ) → args .p .longest < length (used (args .h .len) l) =
+    λ l. rw (length-used (args .h .len) l) (c .if2 .taken) in
+    λ w l.
     rw (
-      answered-true (uploaded .before .upload-formed .ensures) (uploaded .if1 .left),
-      replyFormed-long (args .p .bus) (args .p .longest) (lastOf (args .s .last)) long,
+      answered-true (uploaded .before .upload-formed .ensures w) (uploaded .if1 .left),
+      replyFormed-long (args .p .bus) (args .p .longest) (used (args .h .len) l) (long l),
     )
 
 enum-told : tie.Need-enum-told
@@ -46,10 +49,11 @@ returns-3 c =
     let short = c .before .before in
     let uploaded = short .before .before in
     let args = uploaded .before .before .before .args in
+    λ w l.
     rw (
-      answered-true (uploaded .before .upload-formed .ensures) (uploaded .if1 .left),
+      answered-true (uploaded .before .upload-formed .ensures w) (uploaded .if1 .left),
       c .enum-told .given .1,
-      length-last (args .s .last),
+      length-used (args .h .len) l,
       le-leb _ _ (short .if2 .left),
     )
 
@@ -59,10 +63,11 @@ returns-4 c =
     let short = c .before .before in
     let uploaded = short .before .before in
     let args = uploaded .before .before .before .args in
+    λ w l.
     rw (
-      answered-true (uploaded .before .upload-formed .ensures) (uploaded .if1 .left),
+      answered-true (uploaded .before .upload-formed .ensures w) (uploaded .if1 .left),
       c .enum-told2 .given .1,
-      length-last (args .s .last),
+      length-used (args .h .len) l,
       le-leb _ _ (short .if2 .left),
     )
 

@@ -22,8 +22,8 @@ returns : tie.Need-returns
 returns c =
     let st = c .before .before .before .before .before .before .before in
     let p = st .args .p in
-    λ d. rw (length-used (p .seriallen) (p .serial), eq-eqb _ _ (c .before .before .before .before .before .if1 .taken))
-    (c .before .before .reply .ensures d)
+    λ w l d. rw (length-used (p .seriallen) (p .serial), eq-eqb _ _ (c .before .before .before .before .before .if1 .taken))
+    (c .before .before .reply .ensures w l d)
 
 -- the array has all its bytes
 full : (c : tie.After-bytes) → length (c .before .before .before .args .p .serial) ≡ 16
@@ -54,13 +54,13 @@ returns-2 c =
     let st = c .before .before .before .before .before .before .before .before in
     let p = st .args .p in
     let h : length (p .serial) ≡ 16 = full (c .before .before .before .before .before) in
-    λ d.
+    λ w l d.
     rw (
       length-used (p .seriallen) (p .serial),
       ne-eqb _ _ (c .before .before .before .before .before .before .if1 .left),
       used-take (p .seriallen) (p .serial) (omega arith),
     )
-    (c .before .before .reply2 .ensures d)
+    (c .before .before .reply2 .ensures w l d)
 
 pub serial-spec : {M : Type 1} → statement M
 serial-spec =

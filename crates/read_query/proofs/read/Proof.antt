@@ -4,7 +4,8 @@ use Rattle.response.proofs.Laws.{few-fit, results-fit}
 use Rattle.rules.specs.Commands.{shown}
 use Rattle.rules.specs.Frames.{shortestReply, numberAt}
 use borrow.Author.Tests.{le-leb, lt-leb}
-use lib.ListN.{length, getD, take, drop, length-take}
+use lib.ListN.{length, getD, take, drop, length-take, length-drop}
+use mathlib.Core.List.{[]}
 use Prim.Native.Nat.{_+_, _-_, _<_, _≤_}
 use mathlib.Core.Path.{_≡_, refl, sym, ap, _∙_}
 use native.Mathlib.Omega.{arith}
@@ -30,7 +31,7 @@ slice-aggregate-reply c = search needs
 reply-requires : tie.Need-reply-requires
 reply-requires c κs =
     let st = c .before .before .before .before .before .before .before .before .before .before in
-    few-fit (st .args .p) (st .args .s) _ _ (st .args .at) 0 (st .pre .0) (omega arith)
+    few-fit (st .args .p) (st .args .h) _ _ (st .args .at) 0 (st .pre .0) (omega arith)
 
 same-length : tie.Need-same-length
 same-length c = search needs
@@ -45,17 +46,19 @@ returns c =
     let args = st .args .args .now in
     let over : st .args .p .size < numberAt args 0 + getD args 2 0 =
     omega (arith, t .if1 .taken, a .number-at .ensures .0, w .wide .ensures .0) in
-    rw (lt-leb _ _ over) (c .before .before .reply .ensures (st .args .flash .now))
+    λ w′ l. rw (lt-leb _ _ over) (c .before .before .reply .ensures w′ l (st .args .flash .now))
 
 longest-results-requires : tie.Need-longest-results-requires
 longest-results-requires c κs =
-    unrefused-profile (c .before .before .before .before .before .before .before .before .pre .0 .unrefused) .longest-least
+    unrefused-profile (c .before .before .before .before .before .before .before .before .pre .0 .unrefused [] []) .longest-least
 
 slice-aggregate-reply-2 : tie.Need-slice-aggregate-reply-2
 slice-aggregate-reply-2 c = search needs
 
 reply-requires-2 : tie.Need-reply-requires-2
-reply-requires-2 c κs = search needs
+reply-requires-2 c κs =
+    let st = c .before .before .before .before .before .before .before .before .before .before .before .before in
+    few-fit (st .args .p) (st .args .h) _ _ (st .args .at) 0 (st .pre .0) (omega arith)
 
 same-length-2 : tie.Need-same-length-2
 same-length-2 c = search needs
@@ -73,13 +76,19 @@ returns-2 c =
     omega (arith, e .if1 .left, a .number-at .ensures .0, w .wide .ensures .0) in
     let over : st .args .p .longest - shortestReply (st .args .p .bus) < getD args 2 0 =
     omega (arith, t .if2 .taken, t .before .longest-results .ensures, w .wide .ensures .0) in
-    rw (le-leb _ _ within, lt-leb _ _ over) (c .before .before .reply2 .ensures (st .args .flash .now))
+    λ w′ l. rw (le-leb _ _ within, lt-leb _ _ over) (c .before .before .reply2 .ensures w′ l (st .args .flash .now))
 
 add-start : tie.Need-add-start
-add-start c = search needs
+add-start c =
+    let start = c .before .before .before .before .before .before .before .before .before .before .before in
+    let room = start .pre .0 .unrefused [] [] .flash-holds in
+    omega arith
 
 add-end : tie.Need-add-end
-add-end c = search needs
+add-end c =
+    let start = c .before .before .before .before .before .before .before .before .before .before .before in
+    let room = start .pre .0 .unrefused [] [] .flash-holds in
+    omega arith
 
 sub-reply : tie.Need-sub-reply
 sub-reply c = search needs
@@ -88,10 +97,20 @@ part-reply-start : tie.Need-part-reply-start
 part-reply-start c = search needs
 
 part-reply-end : tie.Need-part-reply-end
-part-reply-end c = search needs
+part-reply-end c =
+    let start = c .before .before .before .before .before .before .before .before .before .before .before in
+    let room = start .pre .0 .unrefused [] [] .flash-holds in
+    omega arith
 
 reply-requires-3 : tie.Need-reply-requires-3
-reply-requires-3 c κs = search needs
+reply-requires-3 c κs =
+    let if2 = c .before .before .before in
+    let longest-results = if2 .before in
+    let wide = longest-results .before .before .before in
+    let st = wide .before .before .before .before .before .before in
+    let held = results-fit (st .args .p) (st .args .h) _ _ (st .args .at) (wide .wide .result) (st .pre .0)
+    (omega (arith, if2 .if2 .left, longest-results .longest-results .ensures)) in
+    simp (length-take, length-drop) (omega arith)
 
 same-length-3 : tie.Need-same-length-3
 same-length-3 c = search needs
@@ -111,8 +130,9 @@ returns-3 c =
     omega (arith, f .if2 .left, f .before .longest-results .ensures, w .wide .ensures .0) in
     let start = st .args .p .offset + a .number-at .result in
     let long : start + w .wide .result - start ≡ w .wide .result = omega arith in
+    λ w′ l.
     rw (le-leb _ _ within, le-leb _ _ held, ← a .number-at .ensures .0, ← w .wide .ensures .0)
-    (rw long at (c .before .before .reply3 .ensures (st .args .flash .now)))
+    (rw long at (c .before .before .reply3 .ensures w′ l (st .args .flash .now)))
 
 pub read-spec : {M : Type 1} → statement M
 read-spec =

@@ -12,7 +12,7 @@ in-range-requires c κs = search needs
 
 returns : tie.Need-returns
 unfolding refusal checkOf
-returns c = rw (answered-false (c .before .in-range .ensures) (c .if1 .taken))
+returns c = λ w l. rw (answered-false (c .before .in-range .ensures) (c .if1 .taken))
 
 flash-short-requires : tie.Need-flash-short-requires
 flash-short-requires c κs = search needs
@@ -21,6 +21,7 @@ returns-2 : tie.Need-returns-2
 unfolding refusal checkOf
 returns-2 c =
     let ranged = c .before .before in
+    λ w l.
     rw (
       answered-true (ranged .before .in-range .ensures) (ranged .if1 .left),
       sym (c .before .flash-short .ensures) ∙ c .if2 .taken,
@@ -36,10 +37,11 @@ unfolding refusal checkOf
 returns-3 c =
     let held = c .before .before in
     let ranged = held .before .before in
+    λ w l.
     rw (
       answered-true (ranged .before .in-range .ensures) (ranged .if1 .left),
       sym (held .before .flash-short .ensures) ∙ held .if2 .left,
-      answered-false (c .before .well-formed .ensures) (c .if3 .taken),
+      answered-false (c .before .well-formed .ensures w l) (c .if3 .taken),
     )
 
 buffer-short-requires : tie.Need-buffer-short-requires
@@ -51,10 +53,11 @@ returns-4 c =
     let formed = c .before .before in
     let held = formed .before .before in
     let ranged = held .before .before in
+    λ w l.
     rw (
       answered-true (ranged .before .in-range .ensures) (ranged .if1 .left),
       sym (held .before .flash-short .ensures) ∙ held .if2 .left,
-      answered-true (formed .before .well-formed .ensures) (formed .if3 .left),
+      answered-true (formed .before .well-formed .ensures w l) (formed .if3 .left),
       sym (c .before .buffer-short .ensures) ∙ c .if4 .taken,
     )
 
@@ -64,10 +67,11 @@ returns-5 c =
     let formed = c .before .before in
     let held = formed .before .before in
     let ranged = held .before .before in
+    λ w l.
     rw (
       answered-true (ranged .before .in-range .ensures) (ranged .if1 .left),
       sym (held .before .flash-short .ensures) ∙ held .if2 .left,
-      answered-true (formed .before .well-formed .ensures) (formed .if3 .left),
+      answered-true (formed .before .well-formed .ensures w l) (formed .if3 .left),
       sym (c .before .buffer-short .ensures) ∙ c .if4 .left,
     )
 

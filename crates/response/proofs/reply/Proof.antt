@@ -10,7 +10,7 @@ same-length : tie.Need-same-length
 same-length c = search needs
 
 returns : tie.Need-returns
-returns c = λ d. rw (c .before .before .store .ensures)
+returns c = λ w l d. rw (c .before .before .store .ensures)
 
 pub reply-spec : {M : Type 1} → statement M
 reply-spec = tie.close (tie.spec store-requires same-length returns)

@@ -1,13 +1,18 @@
 -- `serve::serve` meets its contract: the frame is taken apart as the rules do, executed and answered.
-use Rattle.serve.proofs.ServeLaws.{fits-served}
-use Rattle.response.specs.Done as buffered
-use Rattle.profile.specs.View.{profileOf}
-use Rattle.state.specs.View.{view}
-use Rattle.rules.specs.Commands.{executed}
-use Rattle.rules.specs.Frames.{argumentsOf, commandOf}
+use mathlib.Core.Path.{_≡_, refl, sym, ap, _∙_}
+use mathlib.Core.List.{List, []}
+use Prim.Native.Nat.{ℕ, _+_}
 use native.Mathlib.Omega.{arith}
-use mathlib.Core.Path.{_≡_, refl, ap}
 use borrow.Author.Needs.{needs}
+use Rattle.rules.specs.Frames.{headerLength, argumentsOf, commandOf}
+use Rattle.rules.specs.Responses.{Acted}
+use Rattle.rules.specs.Commands.{executed}
+use Rattle.state.specs.View.{view}
+use Rattle.state.specs.Heads.{stateWith}
+use Rattle.profile.specs.View.{profileOf}
+use Rattle.response.specs.Done as buffered
+use Rattle.answer.proofs.AnsweredLaws.{responded}
+use Rattle.serve.proofs.ServeLaws.{fits-served}
 use Rattle.serve.proofs.serve.Statement.{statement}
 use Rattle.serve.proofs.serve.Tie as tie
 
@@ -28,10 +33,11 @@ destination-requires c κs = search needs
 
 respond-requires : tie.Need-respond-requires
 respond-requires c κs =
-    let o = c .before .before .before .before .before .before in
-    let st = o .before .before .before .before .before .before .before .before .before in
-    fits-served (profileOf (st .args .p)) (view (st .args .s)) _ _ (st .args .flash .now) _ _ _ (st .pre .0) refl
-    (o .execute .kept .1 .1 .1 .1 .1 .0) _ (ap (λ (x : buffered.CommandEffect). x .response) (o .execute .ensures))
+    let o = c .before .before .before .before .before .before .before .before in
+    let st = o .before .before .before .before .before .before .before .before .before .before .before in
+    let s = view (stateWith (st .args .h) (st .args .waiting .now) []) in
+    fits-served (profileOf (st .args .p)) s _ _ (st .args .flash .now) _ _ _ (st .pre .0 _ _) refl
+    (o .execute .kept .1 .1 .1 .1 .1 .1 .0) _ (ap (λ (x : buffered.CommandEffect). x .response) (o .execute .ensures .ruled []))
 
 same-length : tie.Need-same-length
 same-length c = search needs
@@ -39,20 +45,30 @@ same-length c = search needs
 same-length-2 : tie.Need-same-length-2
 same-length-2 c = search needs
 
+same-length-3 : tie.Need-same-length-3
+same-length-3 c = search needs
+
 returns : tie.Need-returns
 returns c =
     let r = c .before .before in
-    let t = r .before .before in
-    let o = t .before .before .before .before .before in
-    let b = o .before .before .before .before in
-    let k = b .before in
-    let st = k .before .before .before .before in
+    let destination = r .before .before in
+    let o = destination .before .before .before .before .before .before .before in
+    let results-start = o .before in
+    let arguments = results-start .before .before .before .before in
+    let command = arguments .before in
+    let st = command .before .before .before .before .before in
     let p = st .args .p in
     let f = st .args .frame .now in
-    let acted = rw (o .before .results-start .ensures, b .arguments .ensures, k .command .ensures) at (o .execute .ensures) in
-    rw (← t .destination .ensures) (r .respond .ensures
-    (executed (profileOf p) (view (st .args .s)) (commandOf (p .bus) f) (argumentsOf (p .bus) f) (st .args .flash .now))
-    _ (st .args .out .now) (omega arith) acted)
+    let w = st .args .waiting .now in
+    let out = st .args .out .now in
+    let acted : List ℕ → Acted =
+    λ l.
+    executed (profileOf p) (view (stateWith (st .args .h) w l)) (commandOf (p .bus) f) (argumentsOf (p .bus) f) (st .args .flash .now) in
+    let done =
+    rw (results-start .results-start .ensures, arguments .arguments .ensures, command .command .ensures) at (o .execute .ensures) in
+    rw (← destination .destination .ensures)
+    (responded (p .bus) _ _ _ _ _ _ _ _ out (headerLength (p .bus) + 2) acted done
+    (λ l. r .respond .ensures (acted l) _ l _ out (omega arith) (done .ruled l)))
 
 pub serve-spec : {M : Type 1} → statement M
 serve-spec =
@@ -66,4 +82,5 @@ serve-spec =
     respond-requires
     same-length
     same-length-2
+    same-length-3
     returns)

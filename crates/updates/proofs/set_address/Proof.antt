@@ -2,6 +2,7 @@
 use mathlib.Core.Path.{sym, _∙_}
 use Rattle.laws.proofs.CommandLaws.{setAddress-outcomes}
 use Rattle.state.specs.View.{view}
+use Rattle.state.specs.Heads.{stateWith}
 use Rattle.profile.specs.View.{profileOf}
 use borrow.Author.Tests.{not-true, not-false}
 use borrow.Author.Needs.{needs}
@@ -15,7 +16,7 @@ type-matches-requires : tie.Need-type-matches-requires
 type-matches-requires c κs = search needs
 
 returns : tie.Need-returns
-returns c = λ d.
+returns c = λ w l d.
     rw (setAddress-outcomes _ _ _ d .foreign
     (sym (c .before .type-matches .ensures) ∙ not-true (c .before .type-matches .result) (c .if1 .taken)))
 
@@ -48,13 +49,13 @@ returns-2 c =
     let e = a .before .before in
     let h = e .before in
     let st = h .before .before .before .before in
-    λ d.
+    λ w l d.
     rw (
-    setAddress-outcomes (profileOf (st .args .p)) (view (st .args .s)) (st .args .args .now) d .refused
+    setAddress-outcomes (profileOf (st .args .p)) (view (stateWith (st .args .h) w l)) (st .args .args .now) d .refused
     (sym (h .type-matches .ensures) ∙ not-false (h .type-matches .result) (e .if1 .left))
     (sym (rw (a .address-taken .ensures) at (r .reserved .ensures)) ∙ i .if2 .taken)
     )
-    (c .before .before .reply .ensures d)
+    (c .before .before .reply .ensures w l d)
 
 with-address-requires : tie.Need-with-address-requires
 with-address-requires c κs = search needs
@@ -70,21 +71,21 @@ same-length-2 c = search needs
 
 returns-3 : tie.Need-returns-3
 returns-3 c =
-    let w = c .before .before .before .before .before in
-    let i = w .before in
+    let a′ = c .before .before .before .before .before in
+    let i = a′ .before in
     let r = i .before in
     let a = r .before in
     let e = a .before .before in
     let h = e .before in
     let st = h .before .before .before .before in
-    λ d.
+    λ w l d.
     rw (
-      setAddress-outcomes (profileOf (st .args .p)) (view (st .args .s)) (st .args .args .now) d .taken
+      setAddress-outcomes (profileOf (st .args .p)) (view (stateWith (st .args .h) w l)) (st .args .args .now) d .taken
           (sym (h .type-matches .ensures) ∙ not-false (h .type-matches .result) (e .if1 .left))
           (sym (rw (a .address-taken .ensures) at (r .reserved .ensures)) ∙ i .if2 .left),
       ← a .address-taken .ensures,
     )
-    (rw (w .with-address .ensures) at (c .before .before .reply2 .ensures d))
+    (rw (a′ .with-address .ensures w l) at (c .before .before .reply2 .ensures w l d))
 
 pub set-address-spec : {M : Type 1} → statement M
 set-address-spec =

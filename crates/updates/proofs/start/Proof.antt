@@ -7,7 +7,7 @@ started-requires : tie.Need-started-requires
 started-requires c κs = search needs
 
 returns : tie.Need-returns
-returns c = λ d o at. rw (c .started .ensures)
+returns c = λ w l d o at. rw (c .started .ensures w l)
 
 pub start-spec : {M : Type 1} → statement M
 start-spec = tie.close (tie.spec started-requires returns)

@@ -1,142 +1,79 @@
--- `upload::take` meets its contract. Invariant: `Reached`, where the first i bytes lead. A turn takes a part that lies in one page, by
--- `turn-appended` or `turn-committed`.
+-- `upload::take` meets its contract: the pages by `commit_pages`, the bytes behind them by `taken-rest`.
 use mathlib.Core.Path.{_≡_}
-use Prim.Native.Nat.{_-_}
 use native.Mathlib.Omega.{arith}
-use lib.ListN.{length, length-take, length-drop}
-use lib.Seq.{take-all}
+use lib.ListN.{length}
 use borrow.Author.Needs.{needs}
-use Rattle.state.specs.View.{largestPage}
 use Rattle.commit.proofs.Laws.{taken-formed}
-use Rattle.upload.proofs.Turns.{Reached, reached-none, turn-appended, turn-committed}
+use Rattle.upload.proofs.Turns.{length-rest, rest-fits, taken-rest, behind-rest}
 use Rattle.upload.proofs.take.Statement.{statement}
 use Rattle.upload.proofs.take.Tie as tie
 
-abbrev Inv-loop : tie.InvT-loop
-Inv-loop p bytes flash₀ page next₀ held₀ count₀ waiting₀ i₀ flash next held count waiting i =
-    Reached p (record { next = next₀; held = held₀; count = count₀; waiting = waiting₀ }) flash₀ bytes i
-    (record { next = next; held = held; count = count; waiting = waiting }) flash
+commit-pages-requires : tie.Need-commit-pages-requires
+commit-pages-requires c κs = search needs
 
-abbrev μ-loop : tie.MeasureT-loop
-μ-loop p bytes flash₀ page next₀ held₀ count₀ waiting₀ i₀ flash next held count waiting i = length bytes - i
+sub-rest : tie.Need-sub-rest
+sub-rest c = search needs
 
-buffer-long : (c : tie.Start Inv-loop μ-loop) → length (c .args .u .waiting) ≡ largestPage
-buffer-long c = search needs
+part-rest-start : tie.Need-part-rest-start
+part-rest-start c = search needs
 
-loop-holds : tie.Need-loop-holds Inv-loop μ-loop
-loop-holds c =
-    let start = c .before .before .before in
-    reached-none (start .args .flash .now) (start .pre .0) (start .args .bytes .now) (start .pre .1) (buffer-long start)
+part-rest-end : tie.Need-part-rest-end
+part-rest-end c = search needs
 
-sub-part : tie.Need-sub-part Inv-loop μ-loop
-sub-part c = search needs
+store-requires : tie.Need-store-requires
+store-requires c κs =
+    let start = c .before .before .before .before .before .before .before .before .before .before in
+    let taken = c .before .before .before .before .commit-pages .ensures in
+    let long = length-rest (start .pre .0) (start .pre .1 .0) (start .pre .1 .1) taken in
+    let room = rest-fits (start .pre .0) (start .pre .1 .0) (start .pre .1 .1) taken in
+    rw long (omega (arith, room .0))
 
-part-requires : tie.Need-part-requires Inv-loop μ-loop
-part-requires c κs = search needs
+add-t16 : tie.Need-add-t16
+add-t16 c =
+    let start = c .before .before .before .before .before .before .before .before .before .before .before .before .before .before in
+    let taken = c .before .before .before .before .before .before .before .before .commit-pages .ensures in
+    let long = length-rest (start .pre .0) (start .pre .1 .0) (start .pre .1 .1) taken in
+    let room = rest-fits (start .pre .0) (start .pre .1 .0) (start .pre .1 .1) taken in
+    omega (arith, long, room .1)
 
-add-end : tie.Need-add-end Inv-loop μ-loop
-add-end c = omega arith
+add-t21 : tie.Need-add-t21
+add-t21 c =
+    let start = c .before .before .before .before .before .before .before .before .before .before .before .before .before .before in
+    let taken = c .before .before .before .before .before .before .before .before .commit-pages .ensures in
+    let long = length-rest (start .pre .0) (start .pre .1 .0) (start .pre .1 .1) taken in
+    let room = rest-fits (start .pre .0) (start .pre .1 .0) (start .pre .1 .1) taken in
+    omega (arith, long, room .0)
 
-slice-aggregate-store : tie.Need-slice-aggregate-store Inv-loop μ-loop
-slice-aggregate-store c = search needs
-
-sub-store : tie.Need-sub-store Inv-loop μ-loop
-sub-store c = search needs
-
-part-store-start : tie.Need-part-store-start Inv-loop μ-loop
-part-store-start c = search needs
-
-part-store-end : tie.Need-part-store-end Inv-loop μ-loop
-part-store-end c = search needs
-
-store-requires : tie.Need-store-requires Inv-loop μ-loop
-store-requires c κs = simp (length-take, length-drop) (omega arith)
-
-add-next : tie.Need-add-next Inv-loop μ-loop
-add-next c = omega arith
-
-add-held : tie.Need-add-held Inv-loop μ-loop
-add-held c = omega arith
-
-rem-if1 : tie.Need-rem-if1 Inv-loop μ-loop
-rem-if1 c = omega arith
-
-sub-commit-counted : tie.Need-sub-commit-counted Inv-loop μ-loop
-sub-commit-counted c = omega arith
-
-add-commit-counted : tie.Need-add-commit-counted Inv-loop μ-loop
-add-commit-counted c = omega arith
-
-array-share-prefix-waiting : tie.Need-array-share-prefix-waiting Inv-loop μ-loop
-array-share-prefix-waiting c = omega arith
-
-slice-aggregate-commit-counted : tie.Need-slice-aggregate-commit-counted Inv-loop μ-loop
-slice-aggregate-commit-counted c = simp length-take (omega arith)
-
-commit-counted-requires : tie.Need-commit-counted-requires Inv-loop μ-loop
-commit-counted-requires c κs = simp length-take (omega arith)
-
-loop-less : tie.Need-loop-less Inv-loop μ-loop
-loop-less c = omega arith
-
-loop-again : tie.Need-loop-again Inv-loop μ-loop
-loop-again c =
-    let test = c .before .before .before .before .before .before in
-    let stored = test .before .before in
-    let at-loop = stored .before .before .before .before .before in
-    let pre = at-loop .before .before .before .before .pre in
-    let part = stored .before .before .before .part .ensures in
-    turn-committed (pre .0) (pre .1) (at-loop .loop .inv) part (stored .store .ensures) (test .if1 .taken)
-    (c .before .before .commit-counted .ensures)
-
-loop-less-2 : tie.Need-loop-less-2 Inv-loop μ-loop
-loop-less-2 c = omega arith
-
-loop-again-2 : tie.Need-loop-again-2 Inv-loop μ-loop
-loop-again-2 c =
-    let stored = c .before .before in
-    let at-loop = stored .before .before .before .before .before in
-    let pre = at-loop .before .before .before .before .pre in
-    let part = stored .before .before .before .part .ensures in
-    turn-appended (pre .0) (pre .1) (at-loop .loop .inv) part (stored .store .ensures) (c .if1 .left)
-
-same-length : tie.Need-same-length Inv-loop μ-loop
+same-length : tie.Need-same-length
 same-length c = search needs
 
-returns : tie.Need-returns Inv-loop μ-loop
+same-length-2 : tie.Need-same-length-2
+same-length-2 c = search needs
+
+returns : tie.Need-returns
 returns c =
-    let turn = c .before .loop in
-    let start = c .before .before .before .before .before in
-    let bytes = start .args .bytes .now in
-    let all = rw (take-all (turn .i) bytes (c .loop-test .left)) at (turn .inv .progress) in
-    (all, taken-formed (start .args .flash .now) (start .pre .0) _ bytes (start .pre .1) all)
+    let start = c .before .before .before .before .before .before .before .before .before .before .before .before .before .before in
+    let taken = c .before .before .before .before .before .before .before .before .commit-pages .ensures in
+    let stored = c .before .before .before .store .ensures in
+    let all = taken-rest (start .pre .0) (start .pre .1 .0) (start .pre .1 .1) taken stored in (
+      all,
+      (
+        taken-formed (start .args .flash .now) (start .pre .0) _ (start .args .bytes .now) (start .pre .1 .0) all,
+        behind-rest (start .pre .0) (start .pre .1 .0) (start .pre .1 .1) taken stored,
+      ),
+    )
 
 pub take-spec : {M : Type 1} → statement M
 take-spec =
     tie.close
     (tie.spec
-    Inv-loop
-    μ-loop
-    loop-holds
-    sub-part
-    part-requires
-    add-end
-    slice-aggregate-store
-    sub-store
-    part-store-start
-    part-store-end
+    commit-pages-requires
+    sub-rest
+    part-rest-start
+    part-rest-end
     store-requires
-    add-next
-    add-held
-    rem-if1
-    sub-commit-counted
-    add-commit-counted
-    array-share-prefix-waiting
-    slice-aggregate-commit-counted
-    commit-counted-requires
-    loop-less
-    loop-again
-    loop-less-2
-    loop-again-2
+    add-t16
+    add-t21
     same-length
+    same-length-2
     returns)

@@ -1,0 +1,2 @@
+-- A law of two parts that are compared.
+pub mod Laws

@@ -1,0 +1,2 @@
+-- A law of reads.
+pub mod Laws

@@ -1,2 +1,0 @@
--- Laws of the normalized state.
-pub mod NormalizeLaws

@@ -1,2 +1,0 @@
--- The state with zeros in the bytes that mean nothing.
-pub mod Normalized

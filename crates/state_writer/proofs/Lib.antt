@@ -1,0 +1,2 @@
+-- Laws of what is written of a state.
+pub mod Laws

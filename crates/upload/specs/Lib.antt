@@ -1,0 +1,2 @@
+-- The pages that accepted bytes end.
+pub mod Pages
