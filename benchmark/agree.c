@@ -23,11 +23,13 @@ struct build {
     __typeof__(plain_decode) *decode;
     __typeof__(plain_two_reads) *two_reads;
     __typeof__(plain_version) *version;
+    __typeof__(plain_upload_end) *upload_end;
+    __typeof__(plain_page_changed) *page_changed;
 };
 
 #define BUILD(c, side)                                                                                                    \
     {#c,       side,       c##_crc8,    c##_crc16,  c##_fresh,     c##_receive, c##_receive_tally,                        \
-     c##_read, c##_encode, c##_general, c##_decode, c##_two_reads, c##_version}
+     c##_read, c##_encode, c##_general, c##_decode, c##_two_reads, c##_version, c##_upload_end, c##_page_changed}
 
 static const struct build builds[] = {BUILD(plain, PLAIN), BUILD(plain256, PLAIN_256)};
 
@@ -189,6 +191,16 @@ static bool job_agrees(const struct job *job)
                                         inputs[0].len, &start, &made) ^ 2;
             plain_number = plain->two_reads(in->code, in->b, pool + inputs[1].at, inputs[1].len, pool + inputs[0].at,
                                             inputs[0].len, &plain_start, &plain_made) ^ 2;
+            break;
+        case UPLOAD_END:
+            number = childbus_upload_end(boards.profile, sizeof boards.profile, bytes, in->len, boards.flash[LIBRARY], FLASH,
+                                         boards.flash[LIBRARY], FLASH);
+            plain_number = plain->upload_end(&boards.plain_profile, bytes, in->len, boards.flash[PLAIN], FLASH,
+                                             boards.flash[PLAIN], FLASH);
+            break;
+        case PAGES_CHANGED:
+            number = childbus_page_changed(boards.profile, sizeof boards.profile, in->a, pool, FLASH, boards.flash[LIBRARY], FLASH);
+            plain_number = plain->page_changed(&boards.plain_profile, in->a, pool, FLASH, boards.flash[PLAIN], FLASH);
             break;
         }
         if (number != expected || number != plain_number || made != plain_made || status != plain_status ||

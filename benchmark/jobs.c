@@ -28,6 +28,10 @@ const struct job job_list[] = {
     {TWO_READS, PLAIN_I2C, 256, 500, 64},
     {DROPPED, PLAIN_RS485, 32, 2000, 64},
     {DROPPED, PLAIN_RS485, 256, 2000, 64},
+    {UPLOAD_END, PLAIN_I2C, 256, 1024, 64},
+    {UPLOAD_END, PLAIN_I2C, 256, FLASH, 64},
+    {PAGES_CHANGED, PLAIN_I2C, 256, FLASH, 64},
+    {PAGES_CHANGED, PLAIN_I2C, 256, FLASH_128, 128},
     GROWTH(PLAIN_I2C, 32),
     GROWTH(PLAIN_I2C, 256),
     GROWTH(PLAIN_RS485, 32),
@@ -48,7 +52,8 @@ const char *kind_name(enum kind kind)
 {
     static const char *const names[] = {"upload-first", "upload-repeated", "upload-tally", "dropped",
                                         "read-back",    "read-reply",      "encode-write", "encode-short",
-                                        "decode-full",  "decode-short",    "two-reads"};
+                                        "decode-full",  "decode-short",    "two-reads",    "upload-end",
+                                        "pages-changed"};
     return names[kind];
 }
 
@@ -206,6 +211,13 @@ void make_inputs(const struct job *job)
         pool_len += inputs[0].len;
         input_count++;
         break;
+    case UPLOAD_END:
+        add_request(0, 0, 0, image, job->amount);
+        break;
+    case PAGES_CHANGED: /* the first has the flash before */
+        for (uint32_t page = 0; page < job->amount / job->page; page++)
+            add_request(0, page, 0, image, page == 0 ? FLASH : 0);
+        break;
     }
 }
 
@@ -298,6 +310,20 @@ static size_t two_library(const struct job *job)
     return sum;
 }
 
+static size_t end_library(void)
+{
+    return childbus_upload_end(boards.profile, sizeof boards.profile, pool, inputs[0].len, boards.flash[LIBRARY], FLASH,
+                               boards.flash[LIBRARY], FLASH);
+}
+
+static size_t pages_library(void)
+{
+    size_t sum = 0;
+    for (size_t i = 0; i < input_count; i++)
+        sum += childbus_page_changed(boards.profile, sizeof boards.profile, inputs[i].a, pool, FLASH, boards.flash[LIBRARY], FLASH);
+    return sum;
+}
+
 static size_t run_library(const struct job *job)
 {
     switch (job->kind) {
@@ -316,6 +342,10 @@ static size_t run_library(const struct job *job)
     case DECODE_FULL:
     case DECODE_SHORT:
         return decode_library(job);
+    case UPLOAD_END:
+        return end_library();
+    case PAGES_CHANGED:
+        return pages_library();
     default: /* TWO_READS */
         return two_library(job);
     }
@@ -347,7 +377,7 @@ void set_up(const struct job *job, enum side side)
         plain_fresh(&boards.plain_state);
         boards.plain_tally = (struct plain_tally){0};
     }
-    if (job->kind == READ_BACK || job->kind == READ_REPLY)
+    if (job->kind == READ_BACK || job->kind == READ_REPLY || job->kind == UPLOAD_END || job->kind == PAGES_CHANGED)
         memcpy(boards.flash[own], image, FLASH);
     else
         memset(boards.flash[own], 0xff, FLASH);

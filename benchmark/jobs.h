@@ -19,14 +19,16 @@ enum kind {
     ENCODE_SHORT,    /* the master makes one of each other request, over and over */
     DECODE_FULL,     /* the master takes apart read replies of `frame` bytes */
     DECODE_SHORT,    /* the master takes apart the replies to the short requests */
-    TWO_READS        /* the master gets a damaged and then a right read of a reply of `frame` bytes */
+    TWO_READS,       /* the master gets a damaged and then a right read of a reply of `frame` bytes */
+    UPLOAD_END,      /* what the flash holds after an upload that is whole */
+    PAGES_CHANGED    /* whether each page of the flash has changed; none has */
 };
 
 struct job {
     enum kind kind;
     uint32_t bus;
     uint32_t frame;  /* M */
-    uint32_t amount; /* bytes (uploads, read back, ENCODE_WRITE), else calls */
+    uint32_t amount; /* bytes (uploads, read back, ENCODE_WRITE, UPLOAD_END, PAGES_CHANGED), else calls */
     uint32_t page;   /* bytes of the board's pages */
 };
 

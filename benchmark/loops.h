@@ -77,6 +77,19 @@ static size_t LOOP(two)(const struct job *job)
     return sum;
 }
 
+static size_t LOOP(end)(void)
+{
+    return CALL(upload_end)(&boards.plain_profile, pool, inputs[0].len, boards.flash[PLAIN], FLASH, boards.flash[PLAIN], FLASH);
+}
+
+static size_t LOOP(pages)(void)
+{
+    size_t sum = 0;
+    for (size_t i = 0; i < input_count; i++)
+        sum += CALL(page_changed)(&boards.plain_profile, inputs[i].a, pool, FLASH, boards.flash[PLAIN], FLASH);
+    return sum;
+}
+
 static size_t LOOP(run)(const struct job *job)
 {
     switch (job->kind) {
@@ -95,6 +108,10 @@ static size_t LOOP(run)(const struct job *job)
     case DECODE_FULL:
     case DECODE_SHORT:
         return LOOP(decode)(job);
+    case UPLOAD_END:
+        return LOOP(end)();
+    case PAGES_CHANGED:
+        return LOOP(pages)();
     default: /* TWO_READS */
         return LOOP(two)(job);
     }

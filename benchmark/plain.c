@@ -574,3 +574,31 @@ uint32_t plain_version(uint32_t major, uint32_t minor, uint32_t *known_major, ui
     *known_minor = minor < major ? minor : major; /* the highest known minor equals the major: 1.1 and 2.2 */
     return 0;
 }
+
+/* How many of n bytes from a place on there are. */
+static size_t there(size_t len, size_t at, size_t n)
+{
+    return at >= len ? 0 : len - at < n ? len - at : n;
+}
+
+/* Whether n bytes from a place on, or as many as there are, are the same in two copies of the flash. */
+static bool same_part(const uint8_t *earlier, size_t earlier_len, const uint8_t *flash, size_t flash_len, size_t at, size_t n)
+{
+    size_t had = there(earlier_len, at, n), has = there(flash_len, at, n);
+    return had == has && (has == 0 || memcmp(earlier + at, flash + at, has) == 0);
+}
+
+uint32_t plain_upload_end(const struct plain_profile *p, const uint8_t *image, size_t image_len, const uint8_t *earlier,
+                          size_t earlier_len, const uint8_t *flash, size_t flash_len)
+{
+    if (image_len <= there(flash_len, p->offset, p->size) &&
+        (image_len == 0 || memcmp(flash + p->offset, image, image_len) == 0))
+        return 0; /* whole */
+    return same_part(earlier, earlier_len, flash, flash_len, p->offset, p->size) ? 2 : 1;
+}
+
+uint32_t plain_page_changed(const struct plain_profile *p, uint32_t page, const uint8_t *earlier, size_t earlier_len,
+                            const uint8_t *flash, size_t flash_len)
+{
+    return !same_part(earlier, earlier_len, flash, flash_len, p->offset + (size_t)page * p->page, p->page);
+}

@@ -24,6 +24,8 @@
 #define plain_decode plain256_decode
 #define plain_two_reads plain256_two_reads
 #define plain_version plain256_version
+#define plain_upload_end plain256_upload_end
+#define plain_page_changed plain256_page_changed
 #endif
 
 enum plain_bus { PLAIN_I2C = 0, PLAIN_RS485 = 1 };
@@ -92,6 +94,12 @@ uint32_t plain_two_reads(uint32_t code, uint32_t asked, const uint8_t *first, si
 
 uint32_t plain_version(uint32_t major, uint32_t minor, uint32_t *known_major, uint32_t *known_minor);
 
+uint32_t plain_upload_end(const struct plain_profile *p, const uint8_t *image, size_t image_len, const uint8_t *earlier,
+                          size_t earlier_len, const uint8_t *flash, size_t flash_len);
+
+uint32_t plain_page_changed(const struct plain_profile *p, uint32_t page, const uint8_t *earlier, size_t earlier_len,
+                            const uint8_t *flash, size_t flash_len);
+
 #ifndef WHOLE_BYTES
 extern __typeof__(plain_crc8) plain256_crc8;
 extern __typeof__(plain_crc16) plain256_crc16;
@@ -104,6 +112,8 @@ extern __typeof__(plain_general) plain256_general;
 extern __typeof__(plain_decode) plain256_decode;
 extern __typeof__(plain_two_reads) plain256_two_reads;
 extern __typeof__(plain_version) plain256_version;
+extern __typeof__(plain_upload_end) plain256_upload_end;
+extern __typeof__(plain_page_changed) plain256_page_changed;
 #endif
 
 #endif

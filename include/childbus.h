@@ -18,7 +18,8 @@
  *   With a compiler whose uint64_t is another type than size_t, the variables for made, start and len become uint64_t.
  *
  * Answers
- *   Every function answers one of the numbers below, except childbus_two_reads. With a number of 2 or above every buffer
+ *   Every function answers one of the numbers below, except childbus_two_reads and the five of "What must not be missed",
+ *   at the end. With a number of 2 or above every buffer
  *   is as it was before the call (the tally aside, which counts 15 to 18), and single results are 0. 2 to 14 say that
  *   the call was refused. 15 to 18 are everyday silence on a shared line: the board has nothing to send, and nothing is
  *   wrong with the firmware.
@@ -368,6 +369,95 @@ uint32_t childbus_version(uint32_t major, uint32_t minor, uint32_t *known_major,
  */
 uint32_t childbus_reset_running(uint32_t bus, uint32_t longest, uint32_t major, uint32_t minor, uint8_t *out,
                                 uint64_t out_len, uint64_t *made);
+
+/*
+ * What must not be missed. Five calls that tell a technician, or a program that speaks to one, what a call meant: silence
+ * of a board that is well, bytes that are lost, a finalize that erased nothing, what the flash holds after an upload, and
+ * which pages changed. They are decided from the call and from state and flash before and after it, never from the
+ * master's copy of a reply, which may be damaged. They change no byte, and answer none of the numbers above but what is
+ * said with each. A profile buffer that holds no profile (number 2 at the board) reads as one on I2C with M, page, S and
+ * O 0.
+ */
+
+/* Answers of childbus_silence. 1 to 7: the frame was not for this board or not whole, or the application runs; the board is
+ * well. Nothing changed but, with 7 on I2C, the last reply, which is gone. */
+#define CHILDBUS_SILENCE_NONE     0u  /* no silence: the frame got a reply, or the call was refused */
+#define CHILDBUS_SILENCE_RUNNING  1u  /* the application runs, and the frame is not the reset */
+#define CHILDBUS_SILENCE_SHORT    2u  /* RS485: shorter than any request (number 15) */
+#define CHILDBUS_SILENCE_LONG     3u  /* RS485: longer than M (number 16) */
+#define CHILDBUS_SILENCE_CRC      4u  /* RS485: wrong CRC (number 17) */
+#define CHILDBUS_SILENCE_FOREIGN  5u  /* for another board: on RS485 number 18, on I2C number 1 */
+#define CHILDBUS_SILENCE_GENERAL  6u  /* a general call that is neither reset nor reset address */
+#define CHILDBUS_SILENCE_TYPE     7u  /* set address with another board's hardware type */
+#define CHILDBUS_SILENCE_RESET    8u  /* reset or reset address, done: no board replies to a general call */
+#define CHILDBUS_SILENCE_START    9u  /* start, done: it has no reply */
+
+/*
+ * Why a received frame got no reply.
+ *
+ *   profile, profile_len   the profile
+ *   state, state_len       the state before the frame; a buffer that holds no state reads as a fresh board's
+ *   address                as for childbus_receive
+ *   frame, frame_len       the frame as it reached the board
+ *   number                 what childbus_receive answered; CHILDBUS_SILENCE_NONE for any but 1 and 15 to 18
+ */
+uint32_t childbus_silence(const uint8_t *profile, uint64_t profile_len, const uint8_t *state, uint64_t state_len,
+                          uint32_t address, const uint8_t *frame, uint64_t frame_len, uint32_t number);
+
+/*
+ * How many bytes are lost: they waited in the state before a call (or a power cut), and after it neither wait nor stand
+ * in flash at their place. At most CHILDBUS_PAGE_MAX.
+ *
+ *   profile, profile_len   the profile: its O
+ *   before, before_len     the state before; a buffer shorter than CHILDBUS_STATE_BYTES has no waiting bytes, and of more
+ *                          than CHILDBUS_PAGE_MAX waiting bytes the first CHILDBUS_PAGE_MAX count
+ *   after, after_len       the state after, read the same way
+ *   flash, flash_len       the lent flash after
+ */
+uint32_t childbus_lost(const uint8_t *profile, uint64_t profile_len, const uint8_t *before, uint64_t before_len,
+                       const uint8_t *after, uint64_t after_len, const uint8_t *flash, uint64_t flash_len);
+
+/*
+ * Answers 1 if a call is a finalize that was answered OK and whose erase count is 0: the flash held these bytes already.
+ * Else 0.
+ *
+ *   profile, profile_len   the profile: its bus
+ *   frame, frame_len       the frame as it reached the board
+ *   number                 what childbus_receive answered
+ *   reply, reply_len       the reply as the board made it
+ *   after, after_len       the state after; a buffer shorter than CHILDBUS_STATE_BYTES has erase count 0
+ */
+uint32_t childbus_erased_nothing(const uint8_t *profile, uint64_t profile_len, const uint8_t *frame, uint64_t frame_len,
+                                 uint32_t number, const uint8_t *reply, uint64_t reply_len, const uint8_t *after,
+                                 uint64_t after_len);
+
+/* Answers of childbus_upload_end. */
+#define CHILDBUS_UPLOAD_WHOLE     0u  /* the working flash begins with the image */
+#define CHILDBUS_UPLOAD_PARTLY    1u  /* it does not, and has changed since the first write */
+#define CHILDBUS_UPLOAD_UNCHANGED 2u  /* it does not, and is as it was */
+
+/*
+ * What the flash holds at the end of an upload, whether it broke off or not.
+ *
+ *   profile, profile_len   the profile: its S and O
+ *   image, image_len       the image
+ *   earlier, earlier_len   the lent flash before the first write
+ *   flash, flash_len       the lent flash now
+ */
+uint32_t childbus_upload_end(const uint8_t *profile, uint64_t profile_len, const uint8_t *image, uint64_t image_len,
+                             const uint8_t *earlier, uint64_t earlier_len, const uint8_t *flash, uint64_t flash_len);
+
+/*
+ * Answers 1 if a page of the working flash is another one in two copies of the lent flash, else 0; 0 for a page that
+ * neither has.
+ *
+ *   profile, profile_len   the profile: its page and O
+ *   page                   the page's number: its first byte is at flash address page * the profile's page
+ *   earlier, earlier_len   the lent flash before
+ *   flash, flash_len       the lent flash now
+ */
+uint32_t childbus_page_changed(const uint8_t *profile, uint64_t profile_len, uint32_t page, const uint8_t *earlier,
+                               uint64_t earlier_len, const uint8_t *flash, uint64_t flash_len);
 
 #ifdef __cplusplus
 }

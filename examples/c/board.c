@@ -50,13 +50,32 @@ unsigned board_page(const struct board *board)
     return board->profile[CHILDBUS_PROFILE_PAGE] == CHILDBUS_PAGE_64 ? CHILDBUS_PAGE : CHILDBUS_PAGE_MAX;
 }
 
+/* What must not be missed of the last frame, for the service screen. */
+static void look(struct board *board, uint32_t address, const uint8_t *frame, uint64_t len, uint64_t made)
+{
+    const uint8_t *p = board->profile;
+    board->silence = childbus_silence(p, sizeof board->profile, board->before, sizeof board->before, address, frame, len,
+                                      board->number);
+    board->lost = childbus_lost(p, sizeof board->profile, board->before, sizeof board->before, board->state, sizeof board->state, board->flash,
+                                sizeof board->flash);
+    board->erased_nothing = childbus_erased_nothing(p, sizeof board->profile, frame, len, board->number, board->reply, made, board->state,
+                                                    sizeof board->state);
+    board->pages = 0;
+    for (uint32_t page = 0; page < BOARD_SIZE / board_page(board); page++)
+        board->pages += childbus_page_changed(p, sizeof board->profile, page, board->earlier, sizeof board->earlier, board->flash,
+                                              sizeof board->flash);
+}
+
 uint64_t board_frame(struct board *board, uint32_t address, const uint8_t *frame, uint64_t len)
 {
     uint64_t made;
+    memcpy(board->before, board->state, sizeof board->before);
+    memcpy(board->earlier, board->flash, sizeof board->earlier);
     board->number = childbus_receive_tally(board->profile, sizeof board->profile, board->state, sizeof board->state,
                                            address, frame, len, board->flash, sizeof board->flash, board->reply,
                                            sizeof board->reply, board->tally, sizeof board->tally, &made);
     stop_if_refused(board->number);
+    look(board, address, frame, len, made);
     return board->profile[CHILDBUS_PROFILE_BUS] == CHILDBUS_RS485 ? made : 0;
 }
 

@@ -14,6 +14,12 @@ struct board {
     uint8_t reply[BOARD_LONGEST];
     uint8_t tally[CHILDBUS_TALLY_BYTES]; /* for the service screen; cleared at power-up, and by no reset */
     uint32_t number;                     /* what the library answered to the last frame */
+    uint32_t silence;                    /* why it got no reply: CHILDBUS_SILENCE_NONE if it got one */
+    uint32_t lost;                       /* how many accepted bytes it lost */
+    uint32_t erased_nothing;             /* it was a finalize, and no page was erased */
+    uint32_t pages;                      /* how many pages it changed */
+    uint8_t before[CHILDBUS_STATE_BYTES];
+    uint8_t earlier[BOARD_OFFSET + BOARD_SIZE]; /* state and flash before the last frame */
 };
 
 /* Power-up on a bus (CHILDBUS_I2C or CHILDBUS_RS485) with pages of a size (CHILDBUS_PAGE_64 or CHILDBUS_PAGE_128), with empty flash

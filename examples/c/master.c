@@ -158,10 +158,10 @@ static void leave_application(struct master *master)
     printf("  version %u.%u: the application runs; reset, then version %u.%u\n", (unsigned)major, (unsigned)minor, r[0], r[1]);
 }
 
-/* A frame that gets no reply, on RS485, and the board's number for it. */
-static void no_reply(struct master *master, const char *name, const uint8_t *frame, uint64_t len, uint32_t number)
+/* A frame that gets no reply, on RS485, the board's number for it, and why it is silent. */
+static void no_reply(struct master *master, const char *name, const uint8_t *frame, uint64_t len, uint32_t number, uint32_t silence)
 {
-    if (exchange(master, CHILDBUS_GENERAL_CALL, frame, len) != 0 || master->board->number != number)
+    if (exchange(master, CHILDBUS_GENERAL_CALL, frame, len) != 0 || master->board->number != number || master->board->silence != silence)
         fail("another silence was expected");
     printf("  %s: no reply, number %u\n", name, (unsigned)number);
 }
@@ -179,11 +179,40 @@ static void show_silences(struct master *master)
         childbus_encode(master->bus, master->longest, CHILDBUS_CMD_VERSION, ADDRESS + 1, 0, 0, none, 0, other,
                         sizeof other, &other_len) != CHILDBUS_MADE)
         fail("the request can't be made");
-    no_reply(master, "frame cut after 3 bytes", frame, 3, CHILDBUS_FRAME_SHORT);
-    no_reply(master, "frame of M + 1 bytes", frame, master->longest + 1, CHILDBUS_FRAME_LONG);
+    no_reply(master, "frame cut after 3 bytes", frame, 3, CHILDBUS_FRAME_SHORT, CHILDBUS_SILENCE_SHORT);
+    no_reply(master, "frame of M + 1 bytes", frame, master->longest + 1, CHILDBUS_FRAME_LONG, CHILDBUS_SILENCE_LONG);
     frame[len - 1] ^= 1;
-    no_reply(master, "damaged frame", frame, len, CHILDBUS_FRAME_CRC_WRONG);
-    no_reply(master, "frame for another board", other, other_len, CHILDBUS_FRAME_FOREIGN);
+    no_reply(master, "damaged frame", frame, len, CHILDBUS_FRAME_CRC_WRONG, CHILDBUS_SILENCE_CRC);
+    no_reply(master, "frame for another board", other, other_len, CHILDBUS_FRAME_FOREIGN, CHILDBUS_SILENCE_FOREIGN);
+}
+
+/* Bytes that wait are not in flash: a reset loses them, though the board said OK. Here those of the image's first bytes, turned over. */
+static void lose_bytes(struct master *master, const uint8_t *image)
+{
+    uint8_t data[6], request[CHILDBUS_FRAME_MAX];
+    const uint8_t *results;
+    uint64_t len;
+
+    for (size_t i = 0; i < sizeof data; i++)
+        data[i] = (uint8_t)~image[i];
+    if (command(master, CHILDBUS_CMD_WRITE, CHILDBUS_DEFAULT_FIRST, 0, 0, data, sizeof data, &results, &len) != CHILDBUS_OK ||
+        master->board->pages != 0)
+        fail("the write was not taken, or went to flash");
+    if (childbus_general(master->bus, master->longest, 1, request, sizeof request, &len) != CHILDBUS_MADE ||
+        exchange(master, CHILDBUS_GENERAL_CALL, request, len) != 0 || master->board->silence != CHILDBUS_SILENCE_RESET)
+        fail("the reset was not done");
+    printf("  6 bytes written, OK; then reset: %u of them lost\n", (unsigned)master->board->lost);
+}
+
+/* What the flash holds, by the library, and not by what the master was told. */
+static void show_flash(const struct board *board, const uint8_t *image, const uint8_t *earlier)
+{
+    static const char *const ends[] = {"the whole image", "a part of the image", "what it held before"};
+    uint32_t end = childbus_upload_end(board->profile, sizeof board->profile, image, IMAGE, earlier, sizeof board->flash, board->flash,
+                                       sizeof board->flash);
+    if (end != CHILDBUS_UPLOAD_WHOLE)
+        fail("the upload is not whole");
+    printf("  the flash holds %s\n", ends[end]);
 }
 
 static void show_tally(const struct board *board)
@@ -227,8 +256,9 @@ static void run_master(struct board *board, uint32_t bus, uint32_t page, const u
     if (upload(&master, image, IMAGE) != (IMAGE + board_page(board) - 1) / board_page(board))
         fail("another erase count was expected");
     read_back(&master, image, IMAGE);
-    if (upload(&master, image, IMAGE) != 0)
+    if (upload(&master, image, IMAGE) != 0 || !board->erased_nothing)
         fail("a repeated upload erased a page");
+    show_flash(board, image, board->earlier);
 
     /* a damaged frame: INVALID_CRC on I2C, silence on RS485 */
     static const uint8_t none[1];
@@ -259,6 +289,7 @@ static void run_master(struct board *board, uint32_t bus, uint32_t page, const u
     printf("  flash outside the image: unchanged\n");
     leave_application(&master);
     show_tally(board); /* the reset has not cleared it */
+    lose_bytes(&master, image);
 }
 
 int main(void)

@@ -1,0 +1,158 @@
+// Guided lessons: the bench's own scripts (lessons/*.txt), with a question before the answer is shown (lessons.json). A lesson has a
+// session of its own; what was done before is kept beside it.
+
+// What lines that only show something at the bench mean here.
+const LOOK = {
+    map: 'Look at the pages of the flash.',
+    state: 'Look at the board: address, next address, waiting bytes.',
+    tally: 'Look at the tally.',
+};
+
+class Lesson {
+    constructor(lesson, session) {
+        this.lesson = lesson;
+        this.session = session;
+        this.place = 0;
+        this.mark = 0;
+        this.choice = null;
+        this.verdict = null;
+        this.asked = 0;
+        this.right = 0;
+        this.refusal = null;
+        this.said = [];
+    }
+
+    get entry() {
+        return this.lesson.entries[this.place] ?? null;
+    }
+
+    // The entry's line is done: what was tried besides is put aside, and the frames of an upload go all at once.
+    act() {
+        const { session, entry } = this;
+        if (session.at !== this.mark) session.go(this.mark);
+        this.refusal = null;
+        try {
+            session.run(entry.line);
+            while (session.now.plan && !session.now.onBus) session.run('next');
+        } catch (error) {
+            if (!(error instanceof LineError)) throw error;
+            this.refusal = error.message;
+        }
+        this.pass();
+    }
+
+    // The line was done by hand, on the page.
+    follow() {
+        if (!this.entry || this.session.now.plan && this.session.now.onBus) return;
+        this.pass();
+    }
+
+    pass() {
+        const { question } = this.entry;
+        this.verdict = null;
+        if (question) {
+            const right = this.choice === question.right;
+            this.asked += 1;
+            this.right += right ? 1 : 0;
+            this.verdict = { right, question, choice: this.choice, say: this.entry.say };
+        }
+        this.choice = null;
+        this.said = this.summary();
+        this.mark = this.session.at;
+        this.place += 1;
+    }
+
+    // What was said on the way of several frames, and at their end.
+    summary() {
+        const steps = this.session.steps.slice(this.mark, this.session.at);
+        if (steps.length < 2) return [];
+        const ends = steps.flatMap((step, i) => tell(step).filter(({ side, text }) => step.end && i === steps.length - 1 && side !== 'bus'
+            ? !text.startsWith('changed: ') && !/^(number|status) /.test(text) : side === 'alarm' && !/still wait/.test(text)));
+        return ends.map(({ text }) => text);
+    }
+
+    // The next frame that the lesson will send, as an action, to be shown on the bus before it goes.
+    coming(files) {
+        for (const { line } of this.lesson.entries.slice(this.place)) {
+            const action = parseLine(line, files);
+            if (['request', 'general', 'send'].includes(action?.do)) return action;
+            if (action && !['damage', 'to', 'application', 'lose', 'hold'].includes(action.do)) return null;
+        }
+        return null;
+    }
+
+    // Whether a line that is done on the page is the one that the lesson waits for.
+    waitsFor(line) {
+        const { entry } = this;
+        if (entry === null || entry.line !== line || this.session.at !== this.mark) return false;
+        return (!entry.question || this.choice !== null) && !/^(upload|reset-running)/.test(line);
+    }
+}
+
+function drawLesson(lesson, actions) {
+    const box = byId('lesson');
+    box.hidden = lesson === null;
+    if (lesson === null) return;
+    const { entry, verdict, refusal } = lesson;
+    const total = lesson.lesson.entries.length;
+    box.replaceChildren(...[
+        el('h2', {}, lesson.lesson.title, ' ', el('small', {}, `${Math.min(lesson.place + 1, total)} of ${total}`)),
+        refusal ? el('p', { class: 'verdict' }, `The line was refused: ${refusal}`) : null,
+        verdict ? drawVerdict(verdict) : null,
+        lesson.said.length ? el('div', { class: 'verdict' }, lesson.said.map(text => el('div', {}, text))) : null,
+        ...entry ? drawEntry(lesson, entry, actions) : drawEnd(lesson, actions),
+    ].filter(Boolean));
+}
+
+// The answer, and what the lesson says of it, which is not shown before.
+function drawVerdict({ right, question, choice, say }) {
+    return el('div', { class: 'verdict', id: 'verdict' },
+        el('strong', {}, right ? '✔ As you expected. ' : `✘ Not so. You expected: ${question.choices[choice] ?? 'nothing'}. `),
+        question.why, say.map(text => el('p', {}, text)));
+}
+
+function drawEntry(lesson, entry, actions) {
+    const { line, say, question } = entry;
+    const look = LOOK[line];
+    const ready = !question || lesson.choice !== null;
+    return [
+        ...question ? [] : say.map(text => el('p', {}, text)),
+        look ? el('p', {}, look)
+            : el('p', {}, 'Now: ', el('span', { class: 'line' }, shortened(line, 200)), ' ', el('small', {}, lineWords(line))),
+        question ? drawQuestion(lesson, question, actions) : null,
+        el('div', { class: 'row' },
+            button('do-it', look ? 'Go on' : 'Do it', () => actions.lessonAct(), { class: 'main', disabled: !ready }),
+            ready ? null : el('small', {}, 'What do you expect? Choose first.'),
+            leaving(actions)),
+    ];
+}
+
+// What a line does, for those who don't know the bench.
+function lineWords(line) {
+    const [first, second] = line.split(/\s+/);
+    return WORDS.page.lines[`${first} ${second}`] ?? WORDS.page.lines[first] ?? '';
+}
+
+function drawQuestion(lesson, question, actions) {
+    return el('fieldset', {}, el('legend', {}, el('strong', {}, question.ask)),
+        question.choices.map((text, i) => {
+            const choose = { onchange: () => actions.lessonChoose(i), checked: lesson.choice === i };
+            return el('label', {}, el('input', { type: 'radio', name: 'choice', value: i, 'data-key': `choice-${i}`, ...choose }), text);
+        }));
+}
+
+function drawEnd(lesson, actions) {
+    const next = LESSONS[LESSONS.indexOf(lesson.lesson) + 1];
+    return [
+        el('p', { id: 'lesson-end' }, `The lesson is at its end. You expected ${lesson.right} of ${lesson.asked} rightly.`),
+        el('p', {}, 'The board is as the lesson left it: try what you like, or step back through it.'),
+        el('div', { class: 'row' },
+            next ? button('next-lesson', `Next: ${next.title}`, () => actions.lessonBegin(next), { class: 'main' }) : null,
+            button('same-lesson', 'Once more', () => actions.lessonBegin(lesson.lesson)),
+            leaving(actions)),
+    ];
+}
+
+function leaving(actions) {
+    return button('leave-lesson', 'Leave the lesson', () => actions.lessonLeave());
+}
