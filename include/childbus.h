@@ -374,9 +374,9 @@ uint32_t childbus_reset_running(uint32_t bus, uint32_t longest, uint32_t major, 
  * What must not be missed. Five calls that tell a technician, or a program that speaks to one, what a call meant: silence
  * of a board that is well, bytes that are lost, a finalize that erased nothing, what the flash holds after an upload, and
  * which pages changed. They are decided from the call and from state and flash before and after it, never from the
- * master's copy of a reply, which may be damaged. They change no byte, and answer none of the numbers above but what is
- * said with each. A profile buffer that holds no profile (number 2 at the board) reads as one on I2C with M, page, S and
- * O 0.
+ * master's copy of a reply, which may be damaged. They change no byte, refuse nothing, and answer none of the numbers above
+ * but what is said with each. A profile buffer shorter than CHILDBUS_PROFILE_BYTES, or with a bus or a page byte above 1,
+ * reads as one on I2C with M, page, S and O 0. Other fields are taken as they are, also where the board answers 2.
  */
 
 /* Answers of childbus_silence. 1 to 7: the frame was not for this board or not whole, or the application runs; the board is
@@ -400,6 +400,9 @@ uint32_t childbus_reset_running(uint32_t bus, uint32_t longest, uint32_t major, 
  *   address                as for childbus_receive
  *   frame, frame_len       the frame as it reached the board
  *   number                 what childbus_receive answered; CHILDBUS_SILENCE_NONE for any but 1 and 15 to 18
+ *
+ * If it answered so, the reason is the right one. With another call's number a command to this board gets
+ * CHILDBUS_SILENCE_TYPE if it is set address, CHILDBUS_SILENCE_START if it is start, else CHILDBUS_SILENCE_NONE.
  */
 uint32_t childbus_silence(const uint8_t *profile, uint64_t profile_len, const uint8_t *state, uint64_t state_len,
                           uint32_t address, const uint8_t *frame, uint64_t frame_len, uint32_t number);
@@ -409,8 +412,8 @@ uint32_t childbus_silence(const uint8_t *profile, uint64_t profile_len, const ui
  * in flash at their place. At most CHILDBUS_PAGE_MAX.
  *
  *   profile, profile_len   the profile: its O
- *   before, before_len     the state before; a buffer shorter than CHILDBUS_STATE_BYTES has no waiting bytes, and of more
- *                          than CHILDBUS_PAGE_MAX waiting bytes the first CHILDBUS_PAGE_MAX count
+ *   before, before_len     the state before; a buffer shorter than CHILDBUS_STATE_BYTES has no waiting bytes. A w above
+ *                          CHILDBUS_PAGE_MAX is taken as CHILDBUS_PAGE_MAX; with next below w their places begin at 0
  *   after, after_len       the state after, read the same way
  *   flash, flash_len       the lent flash after
  */

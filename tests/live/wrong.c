@@ -1,6 +1,7 @@
 /*
- * Wrong libraries for the comparison. A right one's childbus_receive and childbus_receive_tally, renamed (./wrong does it), and after
- * each call the one fault that CHILDBUS_WRONG names, in bytes of the state that should have stayed as they were; with no name, none.
+ * Wrong libraries for the comparison. A right one's calls, renamed (./wrong does it), with the one fault that CHILDBUS_WRONG names; with
+ * no name, none. After childbus_receive and childbus_receive_tally it is in bytes of the state that should have stayed as they were, with
+ * the five calls on what must not be missed in their answers.
  */
 #include <childbus.h>
 #include <stdio.h>
@@ -24,6 +25,17 @@ uint32_t right_receive(const uint8_t *profile, uint64_t profile_len, uint8_t *st
 uint32_t right_receive_tally(const uint8_t *profile, uint64_t profile_len, uint8_t *state, uint64_t state_len, uint32_t address,
                              const uint8_t *frame, uint64_t frame_len, uint8_t *flash, uint64_t flash_len, uint8_t *out,
                              uint64_t out_len, uint8_t *tally, uint64_t tally_len, uint64_t *made);
+
+uint32_t right_silence(const uint8_t *profile, uint64_t profile_len, const uint8_t *state, uint64_t state_len, uint32_t address,
+                       const uint8_t *frame, uint64_t frame_len, uint32_t number);
+uint32_t right_lost(const uint8_t *profile, uint64_t profile_len, const uint8_t *before, uint64_t before_len, const uint8_t *after,
+                    uint64_t after_len, const uint8_t *flash, uint64_t flash_len);
+uint32_t right_erased_nothing(const uint8_t *profile, uint64_t profile_len, const uint8_t *frame, uint64_t frame_len, uint32_t number,
+                              const uint8_t *reply, uint64_t reply_len, const uint8_t *after, uint64_t after_len);
+uint32_t right_upload_end(const uint8_t *profile, uint64_t profile_len, const uint8_t *image, uint64_t image_len,
+                          const uint8_t *earlier, uint64_t earlier_len, const uint8_t *flash, uint64_t flash_len);
+uint32_t right_page_changed(const uint8_t *profile, uint64_t profile_len, uint32_t page, const uint8_t *earlier, uint64_t earlier_len,
+                            const uint8_t *flash, uint64_t flash_len);
 
 static uint8_t before[CHILDBUS_STATE_BYTES]; /* the state before the call */
 
@@ -121,7 +133,8 @@ static void past_the_state(const struct call *c, struct lengths n)
         c->state[CHILDBUS_STATE_BYTES] = 0;
 }
 
-/* After 0 and 1, or after the numbers from 15 on, where no byte may change. */
+/* After 0 and 1, or after the numbers from 15 on, where no byte may change; those of ANSWERS are done by the five calls below. */
+enum { ANSWERS = 2 };
 static const struct wrong {
     const char *name;
     int dropped;
@@ -141,6 +154,20 @@ static const struct wrong {
     {"past_the_state", 0, past_the_state},
     {"dropped_byte_3", 1, byte_3},
     {"dropped_zeros", 1, zeros},
+    {"silence_general_is_foreign", ANSWERS, NULL},
+    {"silence_reset_while_running", ANSWERS, NULL},
+    {"silence_another_type_is_none", ANSWERS, NULL},
+    {"silence_by_number_alone", ANSWERS, NULL},
+    {"lost_127_of_128", ANSWERS, NULL},
+    {"lost_none_to_a_start", ANSWERS, NULL},
+    {"lost_writes_a_byte", ANSWERS, NULL},
+    {"erased_nothing_by_any_count", ANSWERS, NULL},
+    {"erased_nothing_by_any_status", ANSWERS, NULL},
+    {"upload_end_past_s", ANSWERS, NULL},
+    {"upload_end_partly_is_unchanged", ANSWERS, NULL},
+    {"page_changed_by_low_bits", ANSWERS, NULL},
+    {"page_changed_of_64", ANSWERS, NULL},
+    {"page_changed_past_the_end", ANSWERS, NULL},
 };
 
 static const struct wrong *named(void)
@@ -155,6 +182,21 @@ static const struct wrong *named(void)
     exit(2);
 }
 
+static const struct wrong *chosen(void)
+{
+    static const struct wrong *wrong;
+    static int asked;
+    if (!asked)
+        wrong = named();
+    asked = 1;
+    return wrong;
+}
+
+static int is(const char *name)
+{
+    return chosen() != NULL && strcmp(chosen()->name, name) == 0;
+}
+
 static void keep(const struct call *c)
 {
     memcpy(before, c->state, c->state_len < sizeof before ? c->state_len : sizeof before);
@@ -162,10 +204,8 @@ static void keep(const struct call *c)
 
 static uint32_t changed(uint32_t number, const struct call *c)
 {
-    static const struct wrong *wrong;
-    if (wrong == NULL)
-        wrong = named();
-    if (wrong != NULL && (wrong->dropped ? number >= CHILDBUS_FRAME_SHORT : number <= CHILDBUS_NOTHING))
+    const struct wrong *wrong = chosen();
+    if (wrong != NULL && wrong->dropped != ANSWERS && (wrong->dropped ? number >= CHILDBUS_FRAME_SHORT : number <= CHILDBUS_NOTHING))
         wrong->change(c, (struct lengths){number_at(c->state, CHILDBUS_STATE_WAITING_COUNT),
                                           number_at(c->state, CHILDBUS_STATE_REPLY_LENGTH),
                                           number_at(before, CHILDBUS_STATE_WAITING_COUNT),
@@ -191,4 +231,90 @@ uint32_t childbus_receive_tally(const uint8_t *profile, uint64_t profile_len, ui
     keep(&c);
     return changed(right_receive_tally(profile, profile_len, state, state_len, address, frame, frame_len, flash, flash_len, out,
                                        out_len, tally, tally_len, made), &c);
+}
+
+uint32_t childbus_silence(const uint8_t *profile, uint64_t profile_len, const uint8_t *state, uint64_t state_len, uint32_t address,
+                          const uint8_t *frame, uint64_t frame_len, uint32_t number)
+{
+    uint32_t why = right_silence(profile, profile_len, state, state_len, address, frame, frame_len, number);
+    if (why == CHILDBUS_SILENCE_GENERAL && is("silence_general_is_foreign"))
+        return CHILDBUS_SILENCE_FOREIGN;
+    if (why == CHILDBUS_SILENCE_RESET && state_len >= CHILDBUS_STATE_BYTES && state[CHILDBUS_STATE_RUNNING] == 1 &&
+        is("silence_reset_while_running"))
+        return CHILDBUS_SILENCE_RUNNING;
+    if (why == CHILDBUS_SILENCE_TYPE && is("silence_another_type_is_none"))
+        return CHILDBUS_SILENCE_NONE;
+    /* 15 to 18 by themselves, whatever the frame is */
+    if (number >= CHILDBUS_FRAME_SHORT && number <= CHILDBUS_FRAME_FOREIGN && is("silence_by_number_alone"))
+        return CHILDBUS_SILENCE_SHORT + number - CHILDBUS_FRAME_SHORT;
+    return why;
+}
+
+uint32_t childbus_lost(const uint8_t *profile, uint64_t profile_len, const uint8_t *before_call, uint64_t before_len,
+                       const uint8_t *after, uint64_t after_len, const uint8_t *flash, uint64_t flash_len)
+{
+    uint32_t count = right_lost(profile, profile_len, before_call, before_len, after, after_len, flash, flash_len);
+    if (count == CHILDBUS_PAGE_MAX && is("lost_127_of_128"))
+        return count - 1;
+    if (after_len >= CHILDBUS_STATE_BYTES && after[CHILDBUS_STATE_RUNNING] == 1 && is("lost_none_to_a_start"))
+        return 0;
+    if (count > 0 && after_len >= CHILDBUS_STATE_BYTES && is("lost_writes_a_byte"))
+        ((uint8_t *)after)[CHILDBUS_STATE_WAITING] ^= 1;
+    return count;
+}
+
+uint32_t childbus_erased_nothing(const uint8_t *profile, uint64_t profile_len, const uint8_t *frame, uint64_t frame_len,
+                                 uint32_t number, const uint8_t *reply, uint64_t reply_len, const uint8_t *after, uint64_t after_len)
+{
+    static const uint8_t ok[2];
+    if (is("erased_nothing_by_any_count"))
+        after_len = 0;
+    if (is("erased_nothing_by_any_status")) {
+        reply = ok;
+        reply_len = sizeof ok;
+        if (profile_len > 0 && profile[CHILDBUS_PROFILE_BUS] == CHILDBUS_I2C)
+            reply_len = 1;
+    }
+    return right_erased_nothing(profile, profile_len, frame, frame_len, number, reply, reply_len, after, after_len);
+}
+
+/* The profile's first 36 bytes, if there are so many. */
+static uint64_t copied(uint8_t *to, const uint8_t *profile, uint64_t profile_len)
+{
+    uint64_t len = profile_len < CHILDBUS_PROFILE_BYTES ? profile_len : CHILDBUS_PROFILE_BYTES;
+    memcpy(to, profile, len);
+    return len;
+}
+
+uint32_t childbus_upload_end(const uint8_t *profile, uint64_t profile_len, const uint8_t *image, uint64_t image_len,
+                             const uint8_t *earlier, uint64_t earlier_len, const uint8_t *flash, uint64_t flash_len)
+{
+    uint8_t other[CHILDBUS_PROFILE_BYTES];
+    uint64_t other_len = copied(other, profile, profile_len);
+    uint32_t end = right_upload_end(profile, profile_len, image, image_len, earlier, earlier_len, flash, flash_len);
+    /* S as long as the image */
+    if (end != CHILDBUS_UPLOAD_WHOLE && other_len == sizeof other && is("upload_end_past_s")) {
+        for (int i = 0; i < 4; i++)
+            other[CHILDBUS_PROFILE_SIZE + i] = (uint8_t)((image_len + 127) / 128 * 128 >> 8 * i);
+        if (right_upload_end(other, other_len, image, image_len, earlier, earlier_len, flash, flash_len) == CHILDBUS_UPLOAD_WHOLE)
+            return CHILDBUS_UPLOAD_WHOLE;
+    }
+    if (end == CHILDBUS_UPLOAD_PARTLY && is("upload_end_partly_is_unchanged"))
+        return CHILDBUS_UPLOAD_UNCHANGED;
+    return end;
+}
+
+uint32_t childbus_page_changed(const uint8_t *profile, uint64_t profile_len, uint32_t page, const uint8_t *earlier,
+                               uint64_t earlier_len, const uint8_t *flash, uint64_t flash_len)
+{
+    uint8_t other[CHILDBUS_PROFILE_BYTES];
+    uint64_t other_len = copied(other, profile, profile_len);
+    if (is("page_changed_by_low_bits"))
+        page &= 0xffffff;
+    if (other_len == sizeof other && other[CHILDBUS_PROFILE_PAGE] == CHILDBUS_PAGE_128 && is("page_changed_of_64"))
+        other[CHILDBUS_PROFILE_PAGE] = CHILDBUS_PAGE_64;
+    uint32_t changed = right_page_changed(other, other_len, page, earlier, earlier_len, flash, flash_len);
+    if (page > CHILDBUS_FLASH_MAX / CHILDBUS_PAGE && is("page_changed_past_the_end"))
+        return 1;
+    return changed;
 }

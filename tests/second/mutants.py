@@ -2,7 +2,8 @@
 """Single changes of meaning in the rules; each must be noticed.
 
 Changes to board, model, master and sums run on the stored fixed cases: the
-output must differ from fixed.expected. Changes to the ledger, to its bound and
+output must differ from fixed.expected. Changes to the five alarm calls run on
+alarms.cases and alarms.expected in the same way. Changes to the ledger, to its bound and
 to the check sums bit by bit, and some others again, run the check of board,
 ledger, master, pages and check sums: it must fail. A change whose text is not found exactly once, or
 that does not build, is an error.
@@ -17,12 +18,12 @@ from concurrent.futures import ThreadPoolExecutor
 
 HERE = os.path.dirname(os.path.abspath(__file__))
 RULES = ["model", "sums", "tally", "board", "master", "script", "ledger", "check", "rng", "total", "bits", "half_bytes", "running",
-         "silences", "pages"]
+         "silences", "pages", "alarms", "layout", "walks"]
 SECONDS = 60
 WORKERS = 2
 
 ANSWER_MAIN = """#![allow(dead_code)]
-mod board; mod master; mod model; mod script; mod sums; mod tally;
+mod alarms; mod board; mod layout; mod master; mod model; mod script; mod sums; mod tally;
 use std::io::{Read, Write};
 fn main() {
     let mut text = Vec::new();
@@ -33,8 +34,8 @@ fn main() {
 }
 """
 CHECK_MAIN = """#![allow(dead_code)]
-mod bits; mod board; mod half_bytes; mod ledger; mod check; mod master; mod model; mod pages; mod rng; mod running; mod silences;
-mod sums; mod tally; mod total;
+mod alarms; mod bits; mod board; mod half_bytes; mod layout; mod ledger; mod check; mod master; mod model; mod pages; mod rng;
+mod running; mod silences; mod sums; mod tally; mod total; mod walks;
 fn main() {
     if let Err(message) = check::all(3000, 3) {
         println!("{message}");
@@ -45,6 +46,7 @@ fn main() {
 
 W_RULE = "if w > next % u64::from(p.page)"
 PROFILE_LINE = "        count_fields(f, 10)?;\n"
+FLASH_LINE = "        let len = number(\"length\", f[0], MOST_FLASH as u64)?;\n"
 
 # (file, name, old text, new text)
 MUTANTS = [
@@ -583,8 +585,7 @@ SILENCES = [
     ("script", "fresh state clears the tally", "        self.state = State::fresh();\n        Ok(())",
      "        self.state = State::fresh();\n        self.tally = Tally::default();\n        Ok(())"),
     ("script", "profile clears the tally", PROFILE_LINE, PROFILE_LINE + "        self.tally = Tally::default();\n"),
-    ("script", "flash clears the tally", "        let len = number(\"length\", f[0], 131_072)?;\n",
-     "        let len = number(\"length\", f[0], 131_072)?;\n        self.tally = Tally::default();\n"),
+    ("script", "flash clears the tally", FLASH_LINE, FLASH_LINE + "        self.tally = Tally::default();\n"),
 ]
 
 # the profile's page, and states handed over from one page to another
@@ -638,6 +639,67 @@ PAGES = [
     # the lines of case files
     ("script", "another page makes the state fresh", PROFILE_LINE, PROFILE_LINE + "        self.state = State::fresh();\n"),
     ("model", "64 waiting bytes shown", "(self.w as usize).min(MOST_PAGE)]", "(self.w as usize).min(64)]"),
+]
+
+# the five alarm calls: tried with alarms.cases
+SILENT = "matches!(number, 1 | 15 | 16 | 17 | 18)"
+RUNNING_TEST = "    if listener.running {\n        return RUNNING;\n    }\n"
+RESET_RS485 = "    if frame == [0x00, 0x46, 0x80, 0x42] {\n        return RESET;\n    }\n"
+RESET_ADDRESS_RS485 = "    if frame == [0x00, 0x44, 0x01, 0x83] {\n        return RESET;\n    }\n"
+LONG_TEST = "    if frame.len() as u64 > board.m {\n        return LONG;\n    }\n"
+CRC_TEST = "    if !crc16_right(frame) {\n        return CRC;\n    }\n"
+GENERAL_TEST = "    if frame[0] == 0 {\n        return GENERAL;\n    }\n"
+FOREIGN_TEST = "    if !listener.hears(u32::from(frame[0])) {\n        return FOREIGN;\n    }\n"
+NO_STATE = "state.len() < STATE_BYTES || state[0] > 1 || state[2] > 1"
+NO_PROFILE = "profile.len() < PROFILE_BYTES || profile[0] > 1 || profile[6] > 1"
+WAITS = "!now.contains(&(place, byte)) && !stands(place, byte)"
+FIRST_PLACE = "number_at(state, 4).saturating_sub(w)"
+ALARMS = [
+    # silence
+    ("alarms", "silence: 18 is no silence", SILENT, "matches!(number, 1 | 15 | 16 | 17)"),
+    ("alarms", "silence: number in its low byte", SILENT, "matches!(number as u8, 1 | 15..=18)"),
+    ("alarms", "silence: number not looked at", "    if !" + SILENT + " {\n        return NONE;\n    }\n", "    let _ = number;\n"),
+    ("alarms", "silence: reset while running is running", RESET_RS485 + RUNNING_TEST, RUNNING_TEST + RESET_RS485),
+    ("alarms", "silence: reset address while running is a reset", RUNNING_TEST + RESET_ADDRESS_RS485,
+     RESET_ADDRESS_RS485 + RUNNING_TEST),
+    ("alarms", "silence: three bytes are not short", "frame.len() < 4", "frame.len() < 3"),
+    ("alarms", "silence: a frame of M is long", LONG_TEST, LONG_TEST.replace(">", ">=")),
+    ("alarms", "silence: CRC before long", LONG_TEST + CRC_TEST, CRC_TEST + LONG_TEST),
+    ("alarms", "silence: foreign before CRC", CRC_TEST + GENERAL_TEST + FOREIGN_TEST, FOREIGN_TEST + CRC_TEST + GENERAL_TEST),
+    ("alarms", "silence: 0 is foreign", GENERAL_TEST + FOREIGN_TEST, FOREIGN_TEST + GENERAL_TEST),
+    ("alarms", "silence: I2C addresses of 128 heard", "address > 127 || !listener.hears(address)", "!listener.hears(address)"),
+    ("alarms", "silence: address in its low byte", "address > 127 || !listener.hears(address)", "!listener.hears(address & 0xff)"),
+    ("alarms", "silence: bad transfer is silent", "frame.len() < 2 || frame.len() as u64 > board.m ||", "frame.len() < 2 ||"),
+    ("alarms", "silence: another type is none", "        0x01 => TYPE,\n", ""),
+    ("alarms", "silence: address kind not looked at", NO_STATE, "state.len() < STATE_BYTES || state[2] > 1"),
+    ("alarms", "silence: state of 403 bytes", NO_STATE, "state.len() < 403 || state[0] > 1 || state[2] > 1"),
+    # what holds no profile
+    ("alarms", "profile: bus of 2", NO_PROFILE, "profile.len() < PROFILE_BYTES || profile[6] > 1"),
+    ("alarms", "profile: page of 2", NO_PROFILE, "profile.len() < PROFILE_BYTES || profile[0] > 1"),
+    ("alarms", "profile: 35 bytes", NO_PROFILE, "profile.len() < 35 || profile[0] > 1 || profile[6] > 1"),
+    ("alarms", "profile: type 0 is none", NO_PROFILE, NO_PROFILE + " || profile[1] == 0"),
+    # lost bytes
+    ("alarms", "lost: waiting bytes not looked at", WAITS, "!stands(place, byte)"),
+    ("alarms", "lost: flash not looked at", WAITS, "!now.contains(&(place, byte))"),
+    ("alarms", "lost: waiting at any place", WAITS, "!now.iter().any(|&(_, other)| other == byte) && !stands(place, byte)"),
+    ("alarms", "lost: waiting with any value", WAITS, "!now.iter().any(|&(other, _)| other == place) && !stands(place, byte)"),
+    ("alarms", "lost: O forgotten", "flash.get((o + place) as usize)", "flash.get(place as usize)"),
+    ("alarms", "lost: 64 waiting bytes", "MOST_WAITING: u64 = 128", "MOST_WAITING: u64 = 64"),
+    ("alarms", "lost: places of all that wait", FIRST_PLACE, "number_at(state, 4).saturating_sub(number_at(state, 8))"),
+    ("alarms", "lost: places below 0", FIRST_PLACE, "(number_at(state, 4) + (1 << 32) - w) % (1 << 32)"),
+    # finalize
+    ("alarms", "finalize: status not looked at", " && number == 0 && reply.get(front) == Some(&0)", " && number == 0"),
+    ("alarms", "finalize: number not looked at", " && number == 0 && reply", " && reply"),
+    ("alarms", "finalize: count in two bytes", "finalized && count == 0", "finalized && count % 65_536 == 0"),
+    ("alarms", "finalize: any command", "frame.get(front) == Some(&0x07) &&", "frame.get(front).is_some() &&"),
+    # upload and pages
+    ("alarms", "flash: S forgotten", "    let now = part(flash, board.o, board.s);", "    let now = part(flash, board.o, 1 << 20);"),
+    ("alarms", "flash: partly and unchanged by the whole flash", "    if now == part(earlier, board.o, board.s) {",
+     "    if flash == earlier {"),
+    ("alarms", "flash: O forgotten by pages", "board.o + u64::from(page) * board.page", "u64::from(page) * board.page"),
+    ("alarms", "flash: place of a page in 32 bits", "u64::from(page) * board.page", "u64::from(page.wrapping_mul(board.page as u32))"),
+    ("alarms", "flash: a page that one copy has is the same", "u32::from(part(earlier",
+     "u32::from(!part(earlier, at, board.page).is_empty() && part(earlier"),
 ]
 
 # the check sums bit by bit: tried with the check
@@ -698,6 +760,8 @@ CHECKED_TOO = [
     "page in its low 16 bits", "S a multiple of 64 only", "O a multiple of 64 only", "O of 65472 with every page",
     "w by 64", "w by 128", "too many waiting bytes dropped, not 4", "fewer waiting bytes than in the page are 4",
     "commit at 64", "commit by the number of waiting bytes", "change in the first 64 bytes only",
+    "silence: 0 is foreign", "lost: waiting bytes not looked at", "lost: flash not looked at", "finalize: any command",
+    "flash: O forgotten by pages",
 ]
 
 
@@ -707,7 +771,7 @@ def situations(cases):
     for line in cases.split("\n"):
         if line.startswith("# "):
             current = line[2:]
-        elif line[:1] in ("R", "C", "I", "E", "D", "T", "V", "A"):
+        elif line[:1] in ("R", "C", "I", "E", "D", "T", "V", "A", "Q", "L", "X", "U", "H"):
             names.append(current)
     return names
 
@@ -728,7 +792,7 @@ def build(folder, main, module=None, old=None, new=None):
         f.write(CHECK_MAIN if main == "check" else ANSWER_MAIN)
     made = subprocess.run(
         ["rustc", "--edition", "2021", "-C", "opt-level=1", "-C", "overflow-checks=on",
-         "-C", "incremental=parts-" + main, "-A", "warnings", "-o", "mutant", "main.rs"],
+         "-C", "incremental=parts-" + ("check" if main == "check" else "answer"), "-A", "warnings", "-o", "mutant", "main.rs"],
         cwd=folder, capture_output=True, text=True)
     if made.returncode != 0:
         return "does not build: " + made.stderr[:400]
@@ -761,14 +825,15 @@ def judge_check(status, output):
     return True, output.strip().split(";")[0][:60] or "stopped"
 
 
-def try_one(main, mutant, folders, cases, expected, names):
+def try_one(main, mutant, folders, files):
+    cases, expected, names = files.get(main, ("", "", []))
     module, name, old, new = mutant
     folder = folders.get()
     try:
         error = build(folder, main, module, old, new)
         if error:
             return "ERROR", error
-        status, output = run(folder, "" if main == "check" else cases)
+        status, output = run(folder, cases)
     finally:
         folders.put(folder)
     if status is None or status < 0:
@@ -780,26 +845,27 @@ def try_one(main, mutant, folders, cases, expected, names):
     return ("noticed" if noticed else "SURVIVED"), why
 
 
-def unchanged_passes(folder, cases, expected):
-    for main in ("answer", "check"):
+def unchanged_passes(folder, files):
+    for main in ("answer", "alarms", "check"):
+        cases, expected, _ = files.get(main, ("", "", []))
         error = build(folder, main)
         status, output = (None, "") if error else run(folder, cases)
-        if status != 0 or (main == "answer" and output != expected):
+        if status != 0 or output != expected:
             print("the unchanged rules fail (%s): %s" % (main, error or "status %s" % status))
             return False
     return True
 
 
-def try_all(folders, cases, expected):
-    names = situations(cases)
+def try_all(folders, files):
     rules = MUTANTS + RESERVED + HALF_BYTES + RUNNING + SILENCES + PAGES
-    again = [m for m in rules if m[1] in CHECKED_TOO]
+    again = [m for m in rules + ALARMS if m[1] in CHECKED_TOO]
     assert len(again) == len(CHECKED_TOO)
     mutants = [("answer", mutant) for mutant in rules]
+    mutants += [("alarms", mutant) for mutant in ALARMS]
     mutants += [("check", mutant) for mutant in LEDGER + BITS + again]
     noticed = 0
     with ThreadPoolExecutor(max_workers=WORKERS) as pool:
-        tried = pool.map(lambda m: try_one(*m, folders, cases, expected, names), mutants)
+        tried = pool.map(lambda m: try_one(*m, folders, files), mutants)
         for (main, (module, name, _, _)), (word, why) in zip(mutants, tried):
             print("%-8s %s, %s: %s (%s)" % (word, main, module, name, why), flush=True)
             noticed += word == "noticed"
@@ -807,20 +873,26 @@ def try_all(folders, cases, expected):
     return 0 if noticed == len(mutants) else 1
 
 
+def case_file(name):
+    """A stored case file, its expected output, and the comment line of each call."""
+    texts = []
+    for end in (".cases", ".expected"):
+        with open(os.path.join(HERE, name + end)) as f:
+            texts.append(f.read())
+    return texts[0], texts[1], situations(texts[0])
+
+
 def main():
-    with open(os.path.join(HERE, "fixed.cases")) as f:
-        cases = f.read()
-    with open(os.path.join(HERE, "fixed.expected")) as f:
-        expected = f.read()
+    files = {"answer": case_file("fixed"), "alarms": case_file("alarms")}
     with tempfile.TemporaryDirectory() as base:
         folders = queue.Queue()
         for k in range(WORKERS):
             folder = os.path.join(base, "worker%d" % k)
             os.mkdir(folder)
             folders.put(folder)
-        if not unchanged_passes(folder, cases, expected):
+        if not unchanged_passes(folder, files):
             return 1
-        return try_all(folders, cases, expected)
+        return try_all(folders, files)
 
 
 if __name__ == "__main__":

@@ -241,13 +241,16 @@ struct lent {
     static uint64_t name##_store[(GUARD + 8 + (most) + GUARD) / 8 + 1]; \
     static struct lent name = {(uint8_t *)name##_store + GUARD, 0, (uint8_t *)name##_store}
 
-STORE(profile, CHILDBUS_PROFILE_BYTES);
-STORE(state, CHILDBUS_STATE_BYTES);
+STORE(profile, MOST_BYTES);
+STORE(state, MOST_BYTES);
 STORE(flash, MOST_FLASH);
 STORE(tally, CHILDBUS_TALLY_BYTES);
 STORE(out, MOST_ROOM);
 STORE(frame, MOST_BYTES);
 STORE(second, MOST_BYTES);
+STORE(image, MOST_FLASH);
+STORE(earlier, MOST_FLASH);
+STORE(now, MOST_FLASH);
 
 /* 0 to 7, another one each time. */
 static size_t shift(void)
@@ -326,11 +329,15 @@ static uint32_t narrow(const struct narrow *result)
 enum { PAINTED = 2048 };
 #define PAINT 0xc5c5c5c5u
 
-enum { FRESH, RECEIVE, RECEIVE_TALLY, READ, ENCODE, GENERAL, DECODE, TWO_READS, VERSION, RESET_RUNNING, CALLS };
+enum {
+    FRESH, RECEIVE, RECEIVE_TALLY, READ, ENCODE, GENERAL, DECODE, TWO_READS, VERSION, RESET_RUNNING,
+    SILENCE, LOST, ERASED_NOTHING, UPLOAD_END, PAGE_CHANGED, CALLS
+};
 
 static const char *const names[CALLS] = {
-    "childbus_fresh",  "childbus_receive", "childbus_receive_tally", "childbus_read",    "childbus_encode",
-    "childbus_general", "childbus_decode", "childbus_two_reads",     "childbus_version", "childbus_reset_running",
+    "childbus_fresh",   "childbus_receive", "childbus_receive_tally",  "childbus_read",       "childbus_encode",
+    "childbus_general", "childbus_decode",  "childbus_two_reads",      "childbus_version",    "childbus_reset_running",
+    "childbus_silence", "childbus_lost",    "childbus_erased_nothing", "childbus_upload_end", "childbus_page_changed",
 };
 static size_t deepest[CALLS], times[CALLS];
 
@@ -409,6 +416,32 @@ static NOINLINE uint32_t call_version(uint32_t major, uint32_t minor, uint32_t *
 static NOINLINE uint32_t call_reset_running(const uint32_t *n, uint64_t *made)
 {
     MEASURED(RESET_RUNNING, childbus_reset_running(n[0], n[1], n[2], n[3], out.at, out.len, made));
+}
+
+static NOINLINE uint32_t call_silence(uint32_t address, uint32_t number_answered)
+{
+    MEASURED(SILENCE, childbus_silence(profile.at, profile.len, state.at, state.len, address, frame.at, frame.len, number_answered));
+}
+
+static NOINLINE uint32_t call_lost(void)
+{
+    MEASURED(LOST, childbus_lost(profile.at, profile.len, state.at, state.len, second.at, second.len, now.at, now.len));
+}
+
+static NOINLINE uint32_t call_erased_nothing(uint32_t number_answered)
+{
+    MEASURED(ERASED_NOTHING, childbus_erased_nothing(profile.at, profile.len, frame.at, frame.len, number_answered, second.at,
+                                                     second.len, state.at, state.len));
+}
+
+static NOINLINE uint32_t call_upload_end(void)
+{
+    MEASURED(UPLOAD_END, childbus_upload_end(profile.at, profile.len, image.at, image.len, earlier.at, earlier.len, now.at, now.len));
+}
+
+static NOINLINE uint32_t call_page_changed(uint32_t page)
+{
+    MEASURED(PAGE_CHANGED, childbus_page_changed(profile.at, profile.len, page, earlier.at, earlier.len, now.at, now.len));
 }
 
 /* What the lines of the case file have set. */
@@ -611,7 +644,11 @@ static void put_state(void)
 }
 
 /* The 64-bit FNV-1a hash, in two halves; its prime is 2^40 + 435. */
-static void put_hash(const uint8_t *at, size_t len)
+struct hash {
+    uint32_t high, low;
+};
+
+static struct hash hash_of(const uint8_t *at, size_t len)
 {
     uint32_t high = 0xcbf29ce4, low = 0x84222325;
     for (const uint8_t *end = at + len; at < end; at++) {
@@ -621,11 +658,17 @@ static void put_hash(const uint8_t *at, size_t len)
         high = high * 435 + (low << 8) + (rest >> 16);
         low = rest << 16 | (least_part & 0xffff);
     }
+    return (struct hash){high, low};
+}
+
+static void put_hash(const uint8_t *at, size_t len)
+{
+    struct hash hash = hash_of(at, len);
     put(' ');
     for (int i = 24; i >= 0; i -= 8)
-        put_hex((uint8_t)(high >> i));
+        put_hex((uint8_t)(hash.high >> i));
     for (int i = 24; i >= 0; i -= 8)
-        put_hex((uint8_t)(low >> i));
+        put_hex((uint8_t)(hash.low >> i));
 }
 
 static void put_tally(void)
@@ -808,6 +851,143 @@ static void version_line(void)
     put('\n');
 }
 
+/* The calls on what must not be missed. All their buffers are in their line, packed, and are only read. */
+
+static void lend_byte(struct lent *to, size_t most, uint32_t count)
+{
+    if (digit(field[0]) == FAILED || digit(field[1]) == FAILED || count == 0 || count > most - to->len) {
+        bad = 1;
+        return;
+    }
+    memset(to->at + to->len, digit(field[0]) * 16 + digit(field[1]), count);
+    to->len += count;
+    field += 2;
+}
+
+/* One part: a count, `*` and a pair of hex digits, or pairs. */
+static void lend_part(struct lent *to, size_t most)
+{
+    char *first = field;
+    uint32_t count = 0;
+    while (*field >= '0' && *field <= '9' && count <= most)
+        count = count * 10 + (uint32_t)(*field++ - '0');
+    if (*field == '*' && field > first) {
+        field++;
+        lend_byte(to, most, count);
+        return;
+    }
+    field = first;
+    do
+        lend_byte(to, most, 1);
+    while (!bad && *field != '+' && *field != ' ' && *field != '\0');
+}
+
+/* Lends the bytes of a field: `-`, or parts joined by `+`. */
+static void lend_packed(struct lent *to, size_t most)
+{
+    lend_room(to, 0);
+    if (*field == '-') {
+        field++;
+    } else {
+        lend_part(to, most);
+        while (!bad && *field == '+') {
+            field++;
+            lend_part(to, most);
+        }
+    }
+    memset(to->at + to->len, GUARD_BYTE, GUARD);
+    field_ends();
+}
+
+/* What was lent, and its hashes before the call. */
+struct given {
+    const struct lent *lent[4];
+    struct hash hashes[4];
+};
+
+static struct given given_of(const struct lent *a, const struct lent *b, const struct lent *c, const struct lent *d)
+{
+    struct given given = {{a, b, c, d}, {{0, 0}}};
+    for (int i = 0; i < 4; i++)
+        given.hashes[i] = hash_of(given.lent[i]->at, given.lent[i]->len);
+    return given;
+}
+
+static void put_alarm(char letter, uint32_t answer, const struct given *given)
+{
+    for (int i = 0; i < 4; i++) {
+        struct hash hash = hash_of(given->lent[i]->at, given->lent[i]->len);
+        guarded(given->lent[i]);
+        if (hash.high != given->hashes[i].high || hash.low != given->hashes[i].low)
+            wrong("a buffer that is only read has changed");
+    }
+    put(letter);
+    put_number(answer);
+    put('\n');
+}
+
+static void silence_line(void)
+{
+    lend_packed(&profile, MOST_BYTES);
+    lend_packed(&state, MOST_BYTES);
+    uint32_t address = number(UINT32_MAX);
+    lend_packed(&frame, MOST_BYTES);
+    uint32_t number_answered = number(UINT32_MAX);
+    if (!taken())
+        return;
+    struct given given = given_of(&profile, &state, &frame, &frame);
+    put_alarm('Q', call_silence(address, number_answered), &given);
+}
+
+static void lost_line(void)
+{
+    lend_packed(&profile, MOST_BYTES);
+    lend_packed(&state, MOST_BYTES);
+    lend_packed(&second, MOST_BYTES);
+    lend_packed(&now, MOST_FLASH);
+    if (!taken())
+        return;
+    struct given given = given_of(&profile, &state, &second, &now);
+    put_alarm('L', call_lost(), &given);
+}
+
+static void erased_nothing_line(void)
+{
+    lend_packed(&profile, MOST_BYTES);
+    lend_packed(&frame, MOST_BYTES);
+    uint32_t number_answered = number(UINT32_MAX);
+    lend_packed(&second, MOST_BYTES);
+    lend_packed(&state, MOST_BYTES);
+    if (!taken())
+        return;
+    struct given given = given_of(&profile, &frame, &second, &state);
+    put_alarm('X', call_erased_nothing(number_answered), &given);
+}
+
+static void upload_end_line(void)
+{
+    lend_packed(&profile, MOST_BYTES);
+    lend_packed(&image, MOST_FLASH);
+    lend_packed(&earlier, MOST_FLASH);
+    lend_packed(&now, MOST_FLASH);
+    if (!taken())
+        return;
+    struct given given = given_of(&profile, &image, &earlier, &now);
+    put_alarm('U', call_upload_end(), &given);
+}
+
+static void page_changed_line(void)
+{
+    lend_packed(&profile, MOST_BYTES);
+    uint32_t page = number(UINT32_MAX);
+    lend_packed(&earlier, MOST_FLASH);
+    lend_packed(&now, MOST_FLASH);
+    if (!taken())
+        return;
+    struct given given = given_of(&profile, &earlier, &now, &now);
+    put_alarm('H', call_page_changed(page), &given);
+}
+
 static void take_line(void)
 {
     char letter = line[0];
@@ -829,6 +1009,11 @@ static void take_line(void)
     case 'T': two_reads_line(); break;
     case 'V': version_line(); break;
     case 'A': reset_running_line(); break;
+    case 'Q': silence_line(); break;
+    case 'L': lost_line(); break;
+    case 'X': erased_nothing_line(); break;
+    case 'U': upload_end_line(); break;
+    case 'H': page_changed_line(); break;
     default: say_line("bad line", 2);
     }
 }

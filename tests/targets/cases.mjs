@@ -8,6 +8,7 @@ import { load, PROFILE_BYTES, STATE_BYTES, TALLY_BYTES } from './library.mjs'
 const MOST = 0xffffffff
 const UNTOUCHED = 0xa5
 const DEFAULT_RANGE = 256
+const FLASH_BYTES = 131072
 const [WAITING, WAITING_BYTES, REPLY, REPLY_BYTES] = [20, 128, 148, 256]
 const [RESET_ADDRESS, RESET] = [260, 262]
 
@@ -40,6 +41,21 @@ class Fields {
         if (word === '-') return new Uint8Array(0)
         if (!/^([0-9a-f]{2})+$/.test(word) || word.length > 2 * most) throw new BadLine(`not - or up to ${most} pairs of hex digits`)
         return Uint8Array.from(word.match(/../g), pair => parseInt(pair, 16))
+    }
+
+    // Parts joined by +: hex pairs, or a count, * and the pair that stands so often.
+    packed(most = 600) {
+        const word = this.word()
+        const parts = word === '-' ? [] : word.split('+').map(part => {
+            const [, count, pairs] = /^(?:([0-9]+)\*(?=..$))?((?:[0-9a-f]{2})+)$/.exec(part) ?? []
+            if (!pairs || Number(count ?? 1) < 1 || Number(count ?? 1) > most) throw new BadLine('not a packed byte string')
+            const bytes = Uint8Array.from(pairs.match(/../g), pair => parseInt(pair, 16))
+            return count === undefined ? bytes : new Uint8Array(Number(count)).fill(bytes[0])
+        })
+        const all = new Uint8Array(parts.reduce((length, part) => length + part.length, 0))
+        if (all.length > most) throw new BadLine(`more than ${most} bytes`)
+        parts.reduce((at, part) => { all.set(part, at); return at + part.length }, 0)
+        return all
     }
 
     end() {
@@ -183,7 +199,7 @@ const LINES = {
         return () => board.setProfile([bus, ...numbers], bytes, serial)
     },
     F(board, fields) {
-        const [len, a, b] = [fields.number(131072), fields.number(), fields.number()]
+        const [len, a, b] = [fields.number(FLASH_BYTES), fields.number(), fields.number()]
         return () => board.setFlash(len, a, b)
     },
     Z(board) {
@@ -250,6 +266,30 @@ const LINES = {
         const [bus, m, major, minor] = [fields.number(1), fields.number(), ...fields.numbers(2, 255)]
         const out = board.out()
         return () => requested(out, board.library.resetRunning(bus, m, major, minor, out))
+    },
+    Q(board, fields) {
+        const [profile, state, address] = [fields.packed(), fields.packed(), fields.number()]
+        const [frame, number] = [fields.packed(), fields.number()]
+        return () => board.library.silence(profile, state, address, frame, number)
+    },
+    L(board, fields) {
+        const [profile, before, after, flash] = [fields.packed(), fields.packed(), fields.packed(), fields.packed(FLASH_BYTES)]
+        return () => board.library.lost(profile, before, after, flash)
+    },
+    X(board, fields) {
+        const [profile, frame, number] = [fields.packed(), fields.packed(), fields.number()]
+        const [reply, after] = [fields.packed(), fields.packed()]
+        return () => board.library.erasedNothing(profile, frame, number, reply, after)
+    },
+    U(board, fields) {
+        const profile = fields.packed()
+        const [image, earlier, flash] = [fields.packed(FLASH_BYTES), fields.packed(FLASH_BYTES), fields.packed(FLASH_BYTES)]
+        return () => board.library.uploadEnd(profile, image, earlier, flash)
+    },
+    H(board, fields) {
+        const [profile, page] = [fields.packed(), fields.number()]
+        const [earlier, flash] = [fields.packed(FLASH_BYTES), fields.packed(FLASH_BYTES)]
+        return () => board.library.pageChanged(profile, page, earlier, flash)
     },
 }
 

@@ -1,7 +1,7 @@
 """Code, constants and stack of each call of childbus.h by target, as two tables.
 
     figures.py FOLDER WORD TARGET..    FOLDER: for each TARGET what scripts/firmware printed (TARGET.sizes), and the stack in use
-                                       (TARGET.fixed.stack); WORD: write or compare
+                                       (TARGET.fixed.stack, TARGET.alarms.stack); WORD: write or compare
 
 compare prints them, and sees that docs/BENCHMARK.md has the first; write puts both there. The stack in use may exceed the deepest chain of
 frames by what memcpy, memset and divisions take, and by no more.
@@ -22,9 +22,14 @@ def sizes(path):
                 if (found := re.fullmatch(r"\| `(childbus_\w+)` \| (\d+) \| (\d+) \| (\d+) \|\n", line))}
 
 
-def in_use(path):
-    with open(path, encoding="ascii") as file:
-        return {name: int(used) for name, used in (line.split() for line in file)}
+def in_use(*paths):
+    """Call: the deepest use of the stack in any of the files."""
+    deepest = {}
+    for path in paths:
+        with open(path, encoding="ascii") as file:
+            for name, used in (line.split() for line in file):
+                deepest[name] = max(int(used), deepest.get(name, 0))
+    return deepest
 
 
 def header(path):
@@ -41,7 +46,7 @@ def main():
     folder, word, *targets = sys.argv[1:]
     calls = header("include/childbus.h")
     built = {target: sizes(f"{folder}/{target}.sizes") for target in targets}
-    used = {target: in_use(f"{folder}/{target}.fixed.stack") for target in targets}
+    used = {target: in_use(f"{folder}/{target}.fixed.stack", f"{folder}/{target}.alarms.stack") for target in targets}
     for target in targets:
         for call in calls:
             if call not in built[target] or call not in used[target]:

@@ -101,6 +101,27 @@ export class Library {
         return { number, made }
     }
 
+    // What must not be missed: each gives its answer alone.
+    silence(profile, state, address, frame, number) {
+        return this.#call('childbus_silence', read(profile), read(state), address, read(frame), number)[0]
+    }
+
+    lost(profile, before, after, flash) {
+        return this.#call('childbus_lost', read(profile), read(before), read(after), read(flash))[0]
+    }
+
+    erasedNothing(profile, frame, number, reply, after) {
+        return this.#call('childbus_erased_nothing', read(profile), read(frame), number, read(reply), read(after))[0]
+    }
+
+    uploadEnd(profile, image, earlier, flash) {
+        return this.#call('childbus_upload_end', read(profile), read(image), read(earlier), read(flash))[0]
+    }
+
+    pageChanged(profile, page, earlier, flash) {
+        return this.#call('childbus_page_changed', read(profile), page, read(earlier), read(flash))[0]
+    }
+
     // The answer, then the single results.
     #call(name, ...args) {
         const buffers = args.filter(arg => typeof arg !== 'number')

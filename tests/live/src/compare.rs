@@ -1,5 +1,7 @@
 //! The second program's rules and the library side by side: one item at a time, everything compared.
 
+use crate::alarm_edges::{follow, Frame, Upload};
+use crate::alarms::Alarm;
 use crate::dead::Compared;
 use crate::items::*;
 use crate::layout::*;
@@ -8,7 +10,7 @@ use crate::pages::Called;
 use crate::silences;
 use crate::tally::{Kind, Tally};
 use rules::board;
-use rules::ledger::{event, Seen};
+use rules::ledger::{event, Event, Seen};
 use rules::master::{self, Request, RESET_ADDRESS_CALL, RESET_CALL};
 use rules::model::*;
 use rules::rng::Rng;
@@ -20,6 +22,8 @@ pub struct Difference {
     pub what: String,
     pub second: String,
     pub library: String,
+    /// The call on what must not be missed that differs.
+    pub alarm: Option<Box<Alarm>>,
 }
 
 pub enum Stop {
@@ -61,6 +65,8 @@ pub struct Pair {
     board: Board,
     has_profile: bool,
     has_flash: bool,
+    /// The upload since the standing board's last write at 0.
+    upload: Option<Upload>,
     pub tally: Tally,
 }
 
@@ -82,11 +88,14 @@ impl Pair {
             room: 256,
             made_under: None,
         };
-        Pair { board, has_profile: false, has_flash: false, tally: Tally::default() }
+        Pair { board, has_profile: false, has_flash: false, upload: None, tally: Tally::default() }
     }
 
     /// Sets what the item sets, or runs its call on both sides.
     pub fn step(&mut self, item: &Item) -> Result<(), Stop> {
+        if matches!(item, Item::Profile(_) | Item::Flash { .. } | Item::Fresh | Item::State(_)) {
+            self.upload = None;
+        }
         match item {
             Item::Profile(p) => {
                 let bytes = profile_bytes(p);
@@ -108,6 +117,7 @@ impl Pair {
                 self.board.counters = Some(*counters);
             }
             Item::Board(call) => self.standing(call)?,
+            Item::Alarm(alarm) => self.tally.alarms.line(alarm)?,
             Item::Aside(call, buffers) => self.aside(call, buffers)?,
             Item::Encode(e) => self.encode(e)?,
             Item::AsideEncode(e, room) => self.encode_any(e, *room)?,
@@ -163,18 +173,55 @@ impl Pair {
         if !self.has_profile || !self.has_flash {
             return Err(Stop::Unfit);
         }
-        let before = self.board.before();
+        let (before, flash) = (self.board.before(), self.board.flash_before(call));
         let (number, reply) = self.board.call(call)?;
         self.board.count(&mut self.tally, &before, call, number, &reply);
         self.board.made(call, number);
-        if let (Some(p), Some(before), Some(after)) = (&self.board.profile, &before.state, &self.board.state) {
-            if let BoardCall::Receive { address, frame, .. } = call {
+        let (Some(p), Some(state), Some(after)) = (&self.board.profile, &before.state, &self.board.state) else {
+            return self.alarms(call, &before, flash, number, &reply, &Event::Other);
+        };
+        let event = match call {
+            BoardCall::Receive { address, frame, .. } => {
                 let seen = Seen::Frame { address: (*address).min(255) as u8, frame };
                 let event = event(p.bus, seen, number as u8, &reply);
-                self.tally.frame(p, before, after, number, &reply, &event);
+                self.tally.frame(p, state, after, number, &reply, &event);
+                event
             }
+            BoardCall::Read { .. } => Event::Other,
+        };
+        self.alarms(call, &before, flash, number, &reply, &event)
+    }
+
+    /// The calls on what must not be missed after a received frame. Those on the upload follow frames that may end it, and some others.
+    fn alarms(
+        &mut self,
+        call: &BoardCall,
+        before: &Before,
+        flash: Option<Vec<u8>>,
+        number: u32,
+        reply: &[u8],
+        event: &Event,
+    ) -> Result<(), Stop> {
+        self.upload = match (self.upload.take(), event, &flash) {
+            (_, Event::Write { address: 0, data }, Some(flash)) => {
+                Some(Upload { earlier: flash.clone(), image: data.clone() })
+            }
+            (_, Event::Write { address: 0, .. }, None) => None,
+            (Some(mut upload), Event::Write { data, .. }, _) => {
+                upload.image.extend_from_slice(data);
+                Some(upload)
+            }
+            (upload, _, _) => upload,
+        };
+        let Some(frame) = self.board.told(call, before, flash.as_deref(), number, reply) else {
+            return Ok(());
+        };
+        self.tally.alarms.after_frame(&frame)?;
+        let ends = number == 1 || matches!(event, Event::Finalize { .. }) || fnv(frame.frame) % 4 == 0;
+        match &self.upload {
+            Some(upload) if ends => Ok(self.tally.alarms.after_upload(&frame, upload)?),
+            _ => Ok(()),
         }
-        Ok(())
     }
 
     /// On copies: whatever the call does, the standing board stays as it was.
@@ -183,11 +230,14 @@ impl Pair {
             return Err(Stop::Unfit);
         }
         let mut board = self.board.copy(buffers);
-        let before = board.before();
+        let (before, flash) = (board.before(), board.flash_before(call));
         let (number, reply) = board.call(call)?;
         board.count(&mut self.tally, &before, call, number, &reply);
         self.tally.aside += 1;
-        Ok(())
+        match board.told(call, &before, flash.as_deref(), number, &reply) {
+            Some(frame) => Ok(self.tally.alarms.after_frame(&frame)?),
+            None => Ok(()),
+        }
     }
 
     fn encode(&mut self, e: &Encode) -> Result<(), Difference> {
@@ -345,7 +395,7 @@ impl Pair {
 
 impl Difference {
     fn of(what: &str, second: String, library: String) -> Difference {
-        Difference { what: what.to_string(), second, library }
+        Difference { what: what.to_string(), second, library, alarm: None }
     }
 
     fn only(what: &str) -> Difference {
@@ -389,7 +439,7 @@ fn output_same(letter: char, answer: Answer, out: &[u8], got: (u32, usize), lent
         return Ok(got.0);
     };
     let second = format!("{letter} {} {} 1", answer.number, hex(&out[..answer.len]));
-    Err(Difference { what, second, library: format!("{letter} {}", output_text(got, lent)) })
+    Err(Difference::of(&what, second, format!("{letter} {}", output_text(got, lent))))
 }
 
 /// What differs in number, length made and output bytes.
@@ -464,6 +514,31 @@ impl Board {
         }
     }
 
+    /// A copy of the flash, if the call is a frame that the calls on what must not be missed follow.
+    fn flash_before(&self, call: &BoardCall) -> Option<Vec<u8>> {
+        match call {
+            BoardCall::Receive { frame, .. } if follow(frame, self.flash.len()) => Some(self.lent_flash.bytes().to_vec()),
+            _ => None,
+        }
+    }
+
+    /// A received frame as the library left it.
+    fn told<'a>(
+        &'a self,
+        call: &'a BoardCall,
+        before: &'a Before,
+        flash_before: Option<&'a [u8]>,
+        number: u32,
+        reply: &'a [u8],
+    ) -> Option<Frame<'a>> {
+        let (BoardCall::Receive { address, frame, .. }, Some(flash_before)) = (call, flash_before) else {
+            return None;
+        };
+        let (profile, before) = (&self.profile_bytes, &before.state_bytes);
+        let (after, flash) = (self.lent_state.bytes(), self.lent_flash.bytes());
+        Some(Frame { profile, before, after, flash_before, flash, address: *address, frame, number, reply })
+    }
+
     fn before(&self) -> Before {
         let state_bytes = self.lent_state.bytes().to_vec();
         Before { state: self.state.clone(), state_bytes, counters: self.counters }
@@ -531,7 +606,7 @@ impl Board {
             second = format!("{second} {}", counters_text(self.counters));
             library = format!("{library} {}", counters_text(tally_of(self.lent_tally.bytes())));
         }
-        Err(Difference { what, second, library })
+        Err(Difference::of(&what, second, library))
     }
 
     /// childbus.h: a profile that the bytes don't say is number 2, such a state 4, in the order of the tests.

@@ -1,8 +1,9 @@
 //! The items of a list: lines of the case-file format (tests/second/FORMAT.md) and, behind `#!`, calls that only the
 //! C functions have (README.md).
 
+use crate::alarms::Alarm;
 use rules::model::*;
-use rules::script::{hex, tally_text};
+use rules::script::{hex, packed_bytes, tally_text};
 use rules::tally::Tally as Counters;
 
 #[derive(Clone, Debug)]
@@ -31,6 +32,8 @@ pub enum Item {
         minor: u32,
     },
     ResetRunning(ResetRunning),
+    /// A call on what must not be missed, with buffers of its own.
+    Alarm(Alarm),
     /// A board call with buffers of its own, on copies of state and flash.
     Aside(BoardCall, Buffers),
     /// The request encoder with any numbers and a room of its own.
@@ -139,6 +142,7 @@ impl Item {
             }
             Item::Version { major, minor } => format!("V {major} {minor}"),
             Item::ResetRunning(a) => a.text(),
+            Item::Alarm(alarm) => alarm.text(),
             Item::Aside(call, own) => format!("#! {} {}", call.text(), own.text(call.is_counted())),
             Item::AsideEncode(e, room) => format!("#! {} {room}", e.text()),
             Item::General { bus, m, reset, room } => format!("#! G {bus} {m} {reset} {room}"),
@@ -295,6 +299,7 @@ fn plain(letter: &str, f: &[&str]) -> Result<Item, String> {
         },
         ("V", [major, minor]) => Item::Version { major: number(major, 255)?, minor: number(minor, 255)? },
         ("A", _) => Item::ResetRunning(reset_running(f, 1, 255)?),
+        ("Q" | "L" | "X" | "U" | "H", _) => Item::Alarm(alarm(letter, f)?),
         _ => return Err(format!("no line of letter `{letter}` has these fields")),
     })
 }
@@ -385,6 +390,46 @@ fn reset_running(f: &[&str], most_bus: u32, most_version: u32) -> Result<ResetRu
         m: number(m, u32::MAX)?,
         major: number(major, most_version)?,
         minor: number(minor, most_version)?,
+    })
+}
+
+fn alarm(letter: &str, f: &[&str]) -> Result<Alarm, String> {
+    let short = |text: &str| packed_bytes("bytes", text, MOST_BYTES);
+    let long = |text: &str| packed_bytes("bytes", text, MOST_FLASH as usize);
+    Ok(match (letter, f) {
+        ("Q", [profile, state, address, frame, answered]) => Alarm::Silence {
+            profile: short(profile)?,
+            state: short(state)?,
+            address: number(address, u32::MAX)?,
+            frame: short(frame)?,
+            number: number(answered, u32::MAX)?,
+        },
+        ("L", [profile, before, after, flash]) => Alarm::Lost {
+            profile: short(profile)?,
+            before: short(before)?,
+            after: short(after)?,
+            flash: long(flash)?,
+        },
+        ("X", [profile, frame, answered, reply, after]) => Alarm::ErasedNothing {
+            profile: short(profile)?,
+            frame: short(frame)?,
+            number: number(answered, u32::MAX)?,
+            reply: short(reply)?,
+            after: short(after)?,
+        },
+        ("U", [profile, image, earlier, flash]) => Alarm::UploadEnd {
+            profile: short(profile)?,
+            image: long(image)?,
+            earlier: long(earlier)?,
+            flash: long(flash)?,
+        },
+        ("H", [profile, page, earlier, flash]) => Alarm::PageChanged {
+            profile: short(profile)?,
+            page: number(page, u32::MAX)?,
+            earlier: long(earlier)?,
+            flash: long(flash)?,
+        },
+        _ => return Err(format!("wrong number of fields after `{letter}`")),
     })
 }
 

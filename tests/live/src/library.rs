@@ -97,6 +97,56 @@ mod c {
             out_len: usize,
             made: *mut usize,
         ) -> u32;
+        pub fn childbus_silence(
+            profile: *const u8,
+            profile_len: usize,
+            state: *const u8,
+            state_len: usize,
+            address: u32,
+            frame: *const u8,
+            frame_len: usize,
+            number: u32,
+        ) -> u32;
+        pub fn childbus_lost(
+            profile: *const u8,
+            profile_len: usize,
+            before: *const u8,
+            before_len: usize,
+            after: *const u8,
+            after_len: usize,
+            flash: *const u8,
+            flash_len: usize,
+        ) -> u32;
+        pub fn childbus_erased_nothing(
+            profile: *const u8,
+            profile_len: usize,
+            frame: *const u8,
+            frame_len: usize,
+            number: u32,
+            reply: *const u8,
+            reply_len: usize,
+            after: *const u8,
+            after_len: usize,
+        ) -> u32;
+        pub fn childbus_upload_end(
+            profile: *const u8,
+            profile_len: usize,
+            image: *const u8,
+            image_len: usize,
+            earlier: *const u8,
+            earlier_len: usize,
+            flash: *const u8,
+            flash_len: usize,
+        ) -> u32;
+        pub fn childbus_page_changed(
+            profile: *const u8,
+            profile_len: usize,
+            page: u32,
+            earlier: *const u8,
+            earlier_len: usize,
+            flash: *const u8,
+            flash_len: usize,
+        ) -> u32;
     }
 }
 
@@ -234,4 +284,29 @@ pub fn reset_running(bus: u32, m: u32, major: u32, minor: u32, out: &mut Lent) -
     let mut made = UNSET;
     let number = unsafe { c::childbus_reset_running(bus, m, major, minor, o, on, &mut made) };
     (number, made)
+}
+
+pub fn silence(profile: &Lent, state: &Lent, address: u32, frame: &Lent, number: u32) -> u32 {
+    let ((p, pn), (s, sn), (f, fn_)) = (profile.read(), state.read(), frame.read());
+    unsafe { c::childbus_silence(p, pn, s, sn, address, f, fn_, number) }
+}
+
+pub fn lost(profile: &Lent, before: &Lent, after: &Lent, flash: &Lent) -> u32 {
+    let ((p, pn), (b, bn), (a, an), (m, mn)) = (profile.read(), before.read(), after.read(), flash.read());
+    unsafe { c::childbus_lost(p, pn, b, bn, a, an, m, mn) }
+}
+
+pub fn erased_nothing(profile: &Lent, frame: &Lent, number: u32, reply: &Lent, after: &Lent) -> u32 {
+    let ((p, pn), (f, fn_), (r, rn), (a, an)) = (profile.read(), frame.read(), reply.read(), after.read());
+    unsafe { c::childbus_erased_nothing(p, pn, f, fn_, number, r, rn, a, an) }
+}
+
+pub fn upload_end(profile: &Lent, image: &Lent, earlier: &Lent, flash: &Lent) -> u32 {
+    let ((p, pn), (i, in_), (e, en), (m, mn)) = (profile.read(), image.read(), earlier.read(), flash.read());
+    unsafe { c::childbus_upload_end(p, pn, i, in_, e, en, m, mn) }
+}
+
+pub fn page_changed(profile: &Lent, page: u32, earlier: &Lent, flash: &Lent) -> u32 {
+    let ((p, pn), (e, en), (m, mn)) = (profile.read(), earlier.read(), flash.read());
+    unsafe { c::childbus_page_changed(p, pn, page, e, en, m, mn) }
 }

@@ -1,6 +1,7 @@
 //! Random lists. Most are the second program's own; some are whole uploads, repeated in other pieces. Calls that only
 //! the C functions have, and longer requests and replies, are put in between.
 
+use crate::alarm_lines::any_alarm;
 use crate::cases::{self, most_data, most_results, random_own, random_set_address, reply, Sheet, BUSES};
 use crate::items::*;
 use crate::layout::{profile_bytes, put, state_bytes, tally_bytes, PAGE_BYTE, PROFILE_BYTES, STATE_BYTES, TALLY_BYTES};
@@ -22,7 +23,21 @@ pub fn list(seed: u64, k: u64) -> Vec<Item> {
     };
     let items = parse(&text).expect("the generator writes good lines");
     let items = with_more(&mut rng, items);
-    with_noise(&mut Rng::new(rng.number()), items)
+    let items = with_noise(&mut Rng::new(rng.number()), items);
+    with_alarms(&mut Rng::new(rng.number()), items)
+}
+
+/// Calls on what must not be missed, with buffers of their own, behind most calls of the board.
+fn with_alarms(rng: &mut Rng, items: Vec<Item>) -> Vec<Item> {
+    let mut list = Vec::with_capacity(items.len() * 3 / 2);
+    for item in items {
+        let board = matches!(item, Item::Board(_) | Item::Aside(..));
+        list.push(item);
+        if board && rng.percent(60) {
+            list.push(Item::Alarm(any_alarm(rng)));
+        }
+    }
+    list
 }
 
 /// Three lists of four with random bytes where their states mean nothing: from the start, behind most lines that set a state, and
@@ -375,7 +390,7 @@ fn set_address_aside(rng: &mut Rng, p: &Profile) -> Item {
     Item::Aside(call, Buffers { state: Some(state_bytes(&state)), ..Buffers::default() })
 }
 
-fn any_state(rng: &mut Rng, p: &Profile) -> State {
+pub fn any_state(rng: &mut Rng, p: &Profile) -> State {
     let mut s = State::fresh();
     s.own = random_own(rng, p.bus);
     s.running = rng.percent(8);
@@ -392,7 +407,7 @@ fn any_state(rng: &mut Rng, p: &Profile) -> State {
 }
 
 /// An address that is the board's.
-fn some_own(rng: &mut Rng, s: &State) -> u8 {
+pub fn some_own(rng: &mut Rng, s: &State) -> u8 {
     match s.own {
         Own::DefaultRange => 8 + rng.byte() % 8,
         Own::Address(address) => address,
@@ -430,7 +445,7 @@ fn any_board_call(rng: &mut Rng, p: &Profile, s: &State) -> BoardCall {
 }
 
 /// One field that the bytes can hold and the profile can't, a short buffer, or a longer one.
-fn any_profile_bytes(rng: &mut Rng, p: &Profile) -> Vec<u8> {
+pub fn any_profile_bytes(rng: &mut Rng, p: &Profile) -> Vec<u8> {
     let mut b = profile_bytes(p);
     let number = any_number(rng);
     match rng.below(11) {
@@ -451,7 +466,7 @@ fn any_profile_bytes(rng: &mut Rng, p: &Profile) -> Vec<u8> {
 }
 
 /// The same for a state.
-fn any_state_bytes(rng: &mut Rng, p: &Profile, s: &State) -> Vec<u8> {
+pub fn any_state_bytes(rng: &mut Rng, p: &Profile, s: &State) -> Vec<u8> {
     let mut b = state_bytes(s);
     let number = any_number(rng);
     match rng.below(10) {

@@ -1,6 +1,9 @@
 //! Compares the library, through the functions of include/childbus.h, with the second program's rules (README.md).
 
 mod address_edges;
+mod alarm_edges;
+mod alarm_lines;
+mod alarms;
 #[path = "../../second/src/cases.rs"]
 #[allow(dead_code)]
 mod cases;
@@ -67,7 +70,8 @@ fn random(seed: u64, count: u64) -> ExitCode {
         println!("# never happened: {}", missing.join(", "));
         return ExitCode::FAILURE;
     }
-    println!("# {} calls in {k} lists, {:.1} s: no difference", tally.calls, start.elapsed().as_secs_f64());
+    let (calls, alarms, seconds) = (tally.calls, tally.alarms.calls(), start.elapsed().as_secs_f64());
+    println!("# {calls} calls and {alarms} of the five on what must not be missed, in {k} lists, {seconds:.1} s: no difference");
     ExitCode::SUCCESS
 }
 
@@ -84,7 +88,8 @@ fn file(path: &str) -> ExitCode {
         println!("# difference: {path}, call {}", tally.calls + 1);
         return show(&items, &difference);
     }
-    println!("# {path}: {} calls, no difference", tally.calls);
+    let (calls, alarms) = (tally.calls, tally.alarms.calls());
+    println!("# {path}: {calls} calls and {alarms} of the five on what must not be missed, no difference");
     ExitCode::SUCCESS
 }
 
@@ -101,6 +106,7 @@ fn run(items: &[Item], tally: &mut Tally) -> Result<(), Difference> {
             what: "a board call stands before a profile and a flash".to_string(),
             second: "-".to_string(),
             library: "-".to_string(),
+            alarm: None,
         }),
     }
 }

@@ -1,5 +1,6 @@
 //! The smallest list that still shows a difference, as far as found: items are dropped, then made simpler.
 
+use crate::alarms::Alarm;
 use crate::compare::{Difference, Pair, Stop};
 use crate::items::*;
 use crate::layout::{profile_of, state_of, tally_of, STATE_BYTES, TALLY_BYTES};
@@ -68,8 +69,15 @@ impl Search {
         }
     }
 
-    /// Puts lines that `second answer` reads in place of a `#!` line.
+    /// Puts lines that `second answer` reads in place of a `#!` line, and a call on what must not be missed in place of the frame that
+    /// it followed and all before it.
     fn plain_last(&mut self) -> bool {
+        if let (Some(alarm), false) = (&self.best.difference.alarm, matches!(self.best.items.last(), Some(Item::Alarm(_)))) {
+            let alone = vec![Item::Alarm((**alarm).clone())];
+            if self.takes(alone) {
+                return true;
+            }
+        }
         let Some(lines) = self.best.items.last().and_then(plain) else {
             return false;
         };
@@ -284,8 +292,30 @@ fn simpler(item: &Item, profile: Option<&Profile>) -> Vec<Item> {
             simpler.chain([0, 1, 3, 4].map(|room| Item::AsideResetRunning(a.clone(), room))).collect()
         }
         Item::Noise(_) => (0..3).map(Item::Noise).collect(),
+        Item::Alarm(alarm) => alarms(alarm),
         _ => Vec::new(),
     }
+}
+
+/// Smaller numbers, and shorter buffers and such with more zeros, one at a time.
+fn alarms(alarm: &Alarm) -> Vec<Item> {
+    let mut list = Vec::new();
+    let mut copy = alarm.clone();
+    for k in 0..copy.numbers_mut().len() {
+        for number in [0, 1] {
+            let mut other = alarm.clone();
+            *other.numbers_mut()[k] = number;
+            list.push(Item::Alarm(other));
+        }
+    }
+    for (k, bytes) in alarm.buffers().iter().enumerate() {
+        for simpler in shorter(bytes).into_iter().chain(zeroed(bytes)) {
+            let mut other = alarm.clone();
+            *other.buffers_mut()[k] = simpler;
+            list.push(Item::Alarm(other));
+        }
+    }
+    list
 }
 
 fn profiles(p: &Profile) -> Vec<Item> {

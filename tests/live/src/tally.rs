@@ -1,6 +1,7 @@
 //! What was compared: calls of each kind by number, and what happened in them. (The board's own tally is in `silences`.)
 
 use crate::address_edges::AddressEdges;
+use crate::alarm_edges::Alarms;
 use crate::dead::Dead;
 use crate::half_bytes::HalfBytes;
 use crate::pages::Pages;
@@ -77,6 +78,8 @@ pub struct Tally {
     pub silences: Silences,
     pub pages: Pages,
     pub dead: Dead,
+    /// Their calls are not among `calls`.
+    pub alarms: Alarms,
 }
 
 /// The place of a number in `NUMBERS`.
@@ -175,6 +178,7 @@ impl Tally {
         lines.extend(self.silences.lines());
         lines.extend(self.pages.lines());
         lines.push(self.dead.line());
+        lines.extend(self.alarms.lines());
         lines.push(format!("calls with buffers of their own {}, longest flash {}", self.aside, self.most_flash));
         lines
     }
@@ -195,6 +199,7 @@ impl Tally {
         missing.extend(self.silences.missing());
         missing.extend(self.pages.missing());
         missing.extend(self.dead.missing());
+        missing.extend(self.alarms.missing());
         missing
     }
 }

@@ -28,6 +28,7 @@ use crate::silences::{self, judged, Watched};
 use crate::sums::{push_crc16, push_crc8};
 use crate::tally::Tally;
 use crate::total;
+use crate::walks;
 
 #[derive(Clone, Debug)]
 pub enum Call {
@@ -653,6 +654,7 @@ pub fn all(lists: u64, depth: u32) -> Result<Vec<String>, String> {
     report.push(silences::compare(6, lists / 2)?);
     report.push(format!("all lists of up to {depth} calls: {} calls", exhaustive(depth)?));
     report.push(pages::compare(7, lists / 4)?);
+    report.push(walks::compare(8, lists / 10)?);
     for (page, sums) in PAGES.iter().zip(random(1, lists)?) {
         let [calls, commits, finalizes, at_bound, repeats, moves, reserved] = sums;
         report.push(format!(

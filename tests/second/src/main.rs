@@ -10,6 +10,7 @@ use std::process::ExitCode;
 const USAGE: &str = "usage:
   second cases SEED LISTS OUT.cases OUT.expected
   second fixed OUT.cases OUT.expected
+  second alarms OUT.cases OUT.expected
   second answer < CASES > EXPECTED
   second check [LISTS]";
 
@@ -22,6 +23,7 @@ fn main() -> ExitCode {
             _ => usage(),
         },
         ["fixed", out, expected] => save(fixed::all(), out, expected),
+        ["alarms", out, expected] => save(fixed::alarms::all(), out, expected),
         ["answer"] => answer(),
         ["check"] => run_check(20_000),
         ["check", lists] => match lists.parse() {

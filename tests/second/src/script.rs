@@ -1,5 +1,6 @@
 //! Case files: reading their lines and answering the calls (see FORMAT.md).
 
+use crate::alarms;
 use crate::board;
 use crate::master::{self, Request};
 use crate::model::*;
@@ -7,6 +8,8 @@ use crate::tally::Tally;
 
 pub const UNTOUCHED: u8 = 0xa5;
 pub const MOST_BYTES: usize = 600;
+/// Bytes of an image, and of a lent flash.
+pub const MOST_FLASH: usize = 131_072;
 const MOST_NUMBER: u64 = 4_294_967_295;
 
 /// The standing parts of a case file: profile, flash, state, output room, tally.
@@ -50,6 +53,11 @@ impl Runner {
             "T" => two_reads(rest).map(Some),
             "V" => version(rest).map(Some),
             "A" => self.reset_running(rest).map(Some),
+            "Q" => silence(rest).map(Some),
+            "L" => lost(rest).map(Some),
+            "X" => erased_nothing(rest).map(Some),
+            "U" => upload_end(rest).map(Some),
+            "H" => page_changed(rest).map(Some),
             other => Err(format!("unknown line letter `{other}`")),
         }
     }
@@ -73,7 +81,7 @@ impl Runner {
 
     fn set_flash(&mut self, f: Fields) -> Result<(), String> {
         count_fields(f, 3)?;
-        let len = number("length", f[0], 131_072)?;
+        let len = number("length", f[0], MOST_FLASH as u64)?;
         let a = number("a", f[1], MOST_NUMBER)?;
         let b = number("b", f[2], MOST_NUMBER)?;
         self.flash = Some((0..len).map(|i| (a * i + b) as u8).collect());
@@ -233,6 +241,46 @@ fn version(f: Fields) -> Result<String, String> {
     })
 }
 
+fn silence(f: Fields) -> Result<String, String> {
+    count_fields(f, 5)?;
+    let (profile, state) = (packed_bytes("profile", f[0], MOST_BYTES)?, packed_bytes("state", f[1], MOST_BYTES)?);
+    let address = number("address", f[2], MOST_NUMBER)? as u32;
+    let frame = packed_bytes("frame", f[3], MOST_BYTES)?;
+    let answered = number("number", f[4], MOST_NUMBER)? as u32;
+    Ok(format!("Q {}", alarms::silence(&profile, &state, address, &frame, answered)))
+}
+
+fn lost(f: Fields) -> Result<String, String> {
+    count_fields(f, 4)?;
+    let profile = packed_bytes("profile", f[0], MOST_BYTES)?;
+    let (before, after) = (packed_bytes("before", f[1], MOST_BYTES)?, packed_bytes("after", f[2], MOST_BYTES)?);
+    let flash = packed_bytes("flash", f[3], MOST_FLASH)?;
+    Ok(format!("L {}", alarms::lost(&profile, &before, &after, &flash)))
+}
+
+fn erased_nothing(f: Fields) -> Result<String, String> {
+    count_fields(f, 5)?;
+    let (profile, frame) = (packed_bytes("profile", f[0], MOST_BYTES)?, packed_bytes("frame", f[1], MOST_BYTES)?);
+    let answered = number("number", f[2], MOST_NUMBER)? as u32;
+    let (reply, after) = (packed_bytes("reply", f[3], MOST_BYTES)?, packed_bytes("after", f[4], MOST_BYTES)?);
+    Ok(format!("X {}", alarms::erased_nothing(&profile, &frame, answered, &reply, &after)))
+}
+
+fn upload_end(f: Fields) -> Result<String, String> {
+    count_fields(f, 4)?;
+    let (profile, image) = (packed_bytes("profile", f[0], MOST_BYTES)?, packed_bytes("image", f[1], MOST_FLASH)?);
+    let (earlier, flash) = (packed_bytes("earlier", f[2], MOST_FLASH)?, packed_bytes("flash", f[3], MOST_FLASH)?);
+    Ok(format!("U {}", alarms::upload_end(&profile, &image, &earlier, &flash)))
+}
+
+fn page_changed(f: Fields) -> Result<String, String> {
+    count_fields(f, 4)?;
+    let profile = packed_bytes("profile", f[0], MOST_BYTES)?;
+    let page = number("page", f[1], MOST_NUMBER)? as u32;
+    let (earlier, flash) = (packed_bytes("earlier", f[2], MOST_FLASH)?, packed_bytes("flash", f[3], MOST_FLASH)?);
+    Ok(format!("H {}", alarms::page_changed(&profile, page, &earlier, &flash)))
+}
+
 fn rest_untouched(out: &[u8], len: usize) -> u8 {
     u8::from(out[len..].iter().all(|&byte| byte == UNTOUCHED))
 }
@@ -280,6 +328,50 @@ pub fn hex(bytes: &[u8]) -> String {
         text.push(DIGITS[usize::from(byte & 15)] as char);
     }
     text
+}
+
+/// Parts joined by `+`: hex pairs, or a count, `*` and the pair that stands so often. `-` for no bytes.
+pub fn packed(bytes: &[u8]) -> String {
+    const LEAST: usize = 4;
+    if bytes.is_empty() {
+        return "-".to_string();
+    }
+    let mut parts: Vec<String> = Vec::new();
+    let (mut done, mut at) = (0, 0);
+    for run in bytes.chunk_by(|a, b| a == b) {
+        if run.len() >= LEAST {
+            if done < at {
+                parts.push(hex(&bytes[done..at]));
+            }
+            parts.push(format!("{}*{}", run.len(), hex(&run[..1])));
+            done = at + run.len();
+        }
+        at += run.len();
+    }
+    if done < at {
+        parts.push(hex(&bytes[done..]));
+    }
+    parts.join("+")
+}
+
+/// The bytes of a packed string.
+pub fn packed_bytes(name: &str, text: &str, most: usize) -> Result<Vec<u8>, String> {
+    if text == "-" {
+        return Ok(Vec::new());
+    }
+    let mut all = Vec::new();
+    for part in text.split('+') {
+        let left = most - all.len();
+        match part.split_once('*') {
+            Some((count, pair)) => match (number("count", count, left as u64)?, &bytes(name, pair, 1)?[..]) {
+                (count @ 1.., [byte]) => all.resize(all.len() + count as usize, *byte),
+                _ => return Err(format!("{name}: `{part}` is not a count from 1, `*` and a pair of hex digits")),
+            },
+            None if part == "-" => return Err(format!("{name}: `-` is no part of a packed string")),
+            None => all.extend(bytes(name, part, left)?),
+        }
+    }
+    Ok(all)
 }
 
 fn count_fields(f: Fields, wanted: usize) -> Result<(), String> {
@@ -374,6 +466,47 @@ mod tests {
         let answers: Vec<&str> = output.lines().collect();
         assert_eq!(answers, ["A 0 06 1", "A 0 00468042 1", "A 1 - 1", "A 2 - 1", "A 14 - 1", "A 6 - 1", "A 1 - 1"]);
         let bad = ["A 2 32 0 0", "A 0 32 256 0", "A 0 32 0 256", "A 0 32 0", "A 0 32 0 0 0", "A 0 x 0 0"];
+        let (output, errors) = answer_all(bad.join("\n").as_bytes());
+        assert_eq!((output.as_str(), errors.len()), ("", bad.len()));
+    }
+
+    #[test]
+    fn packed_byte_strings() {
+        for text in ["-", "00", "4*00", "0001+4*02+03", "131072*ff", "00000000", "3*00", "5*00+5*01+02"] {
+            let bytes = packed_bytes("bytes", text, 131_072).unwrap();
+            assert_eq!(packed_bytes("bytes", &packed(&bytes), 131_072).unwrap(), bytes);
+        }
+        assert_eq!(packed(&[1, 1, 1, 2, 2, 2, 2, 3]), "010101+4*02+03");
+        assert_eq!(packed_bytes("bytes", "0102+3*05", 5).unwrap(), [1, 2, 5, 5, 5]);
+        for bad in ["", "+", "00+", "+00", "-+00", "4*", "*00", "0*00", "4*0000", "4*-", "6*00", "0102+4*05", "x*00", "4*00*00"] {
+            assert!(packed_bytes("bytes", bad, 5).is_err(), "{bad}");
+        }
+    }
+
+    /// A board on I2C with pages of 64, S 128 and O 64.
+    #[test]
+    fn alarm_lines() {
+        let profile = "0007+5*00+0020000000800000004000+18*00";
+        let own_9 = "0109+402*00";
+        let waiting = "4*00+0600000006+11*00+6*11+378*00";
+        let lines = [
+            format!("Q {profile} 404*00 20 05e8 1"),
+            format!("Q {profile} {own_9} 9 05e8 1"),
+            format!("Q {profile} {own_9} 9 05e8 0"),
+            format!("Q - {own_9} 9 05e8 1"),
+            format!("L {profile} {waiting} - 64*ff+2*11+126*ff"),
+            format!("X {profile} 07e6 0 0002000007 -"),
+            format!("U {profile} 4*11 192*ff 64*ff+4*11+124*ff"),
+            format!("U {profile} 5*11 192*ff 64*ff+4*11+124*ff"),
+            format!("U {profile} 5*11 192*ff 192*ff"),
+            format!("H {profile} 1 192*ff 191*ff+00"),
+            format!("H {profile} 0 192*ff 191*ff+00"),
+        ];
+        let (output, errors) = answer_all(lines.join("\n").as_bytes());
+        assert!(errors.is_empty(), "{errors:?}");
+        let answers: Vec<&str> = output.lines().collect();
+        assert_eq!(answers, ["Q 5", "Q 9", "Q 0", "Q 0", "L 4", "X 1", "U 0", "U 1", "U 2", "H 1", "H 0"]);
+        let bad = ["Q - - 0 -", "Q - - 0 - 4294967296", "L - - -", "X - - 0 -", "U - - - - -", "H - -1 - -", "H - 0 - 131073*00"];
         let (output, errors) = answer_all(bad.join("\n").as_bytes());
         assert_eq!((output.as_str(), errors.len()), ("", bad.len()));
     }

@@ -1,5 +1,6 @@
 //! Every public function gives an answer for any input.
 
+use crate::alarms;
 use crate::board;
 use crate::ledger::{Ledger, Seen};
 use crate::check::{demand, framed, paged_profile, write_frame};
@@ -12,7 +13,7 @@ use crate::silences::any_tally;
 /// frames and replies, most of them out of range.
 pub fn any_input(seed: u64, rounds: u64) -> Result<u64, String> {
     let mut rng = Rng::new(seed);
-    for _ in 0..rounds {
+    for round in 0..rounds {
         let p = any_profile(&mut rng);
         let mut s = any_state(&mut rng);
         let mut flash = vec![0xff; rng.of(&[0, 63, 64, 128, 192, 300]) as usize];
@@ -32,8 +33,40 @@ pub fn any_input(seed: u64, rounds: u64) -> Result<u64, String> {
         demand(answer.number < 2 || (s, flash) == given, "a refused call changed something")?;
         any_master(&mut rng, &p, &frame)?;
         any_ledger(&mut rng, &p, &frame)?;
+        if round % 10 == 0 {
+            any_alarms(&mut rng, &frame)?;
+        }
     }
     Ok(rounds)
+}
+
+/// Bytes of any kind: a profile or a state, or too few or too many bytes for one, with numbers that are out of range.
+fn any_bytes(rng: &mut Rng, whole: usize) -> Vec<u8> {
+    let length = if rng.percent(70) { whole } else { rng.below(whole as u64 + 40) as usize };
+    let mut bytes = rng.bytes(length);
+    if rng.percent(70) {
+        bytes.iter_mut().for_each(|byte| *byte &= 1);
+    }
+    bytes
+}
+
+/// Random bytes as states and as flashes, and as profiles that are none; sometimes one that is.
+fn any_alarms(rng: &mut Rng, frame: &[u8]) -> Result<(), String> {
+    let mut profile = any_bytes(rng, 36);
+    if rng.percent(50) {
+        let (bus, page, o) = (rng.byte() & 1, rng.byte() & 1, rng.byte() & 1);
+        profile = vec![bus, 7, 0, 0, 0, 0, page, 0, 64, 0, 0, 0, 0, 1, 0, 0, 128 * o, 0, 0, 0];
+        profile.resize(36, 0);
+    }
+    let (before, after) = (any_bytes(rng, 404), any_bytes(rng, 404));
+    let (earlier, flash) = (any_bytes(rng, 300), any_bytes(rng, 300));
+    let (address, number) = (any_number(rng), any_number(rng));
+    let image = any_bytes(rng, 4);
+    demand(alarms::silence(&profile, &before, address, frame, number % 20) <= alarms::START, "no silence is that")?;
+    demand(alarms::lost(&profile, &before, &after, &flash) <= 128, "more bytes lost than can wait")?;
+    demand(alarms::erased_nothing(&profile, frame, number & 1, &image, &after) <= 1, "neither 0 nor 1")?;
+    demand(alarms::upload_end(&profile, &image, &earlier, &flash) <= alarms::UNCHANGED, "no end of an upload is that")?;
+    demand(alarms::page_changed(&profile, number, &earlier, &flash) <= 1, "neither 0 nor 1")
 }
 
 fn any_number(rng: &mut Rng) -> u32 {

@@ -1,6 +1,7 @@
 //! The fixed set of cases: all groups in order.
 
 mod addresses;
+pub mod alarms;
 mod commands;
 mod examples;
 mod frames;
