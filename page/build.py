@@ -3,7 +3,8 @@
     build.py ROOT WASM OUTPUT
 
 A lesson that page/lessons.json names is lessons/NAME.txt, the bench's own script: remarks are told, and each other line is a step. A
-question belongs to the line that it names, the nth such line of the lesson.
+question belongs to the line that it names, the nth such line of the lesson; the remark before that line is left out, and so are those
+under "unsaid": they give the answer away.
 """
 
 import base64
@@ -25,12 +26,12 @@ def without_heading(remarks, first):
     return [text.split(". ", 2)[-1] if first and k == 0 and text.startswith("Lesson ") else text for k, text in enumerate(remarks)]
 
 
-def entries(text):
-    """The steps of a lesson: what is told before each, and its line."""
+def entries(text, unsaid):
+    """The steps of a lesson: what is told before each, and its line. A remark that gives an answer away is left unsaid."""
     steps, remarks = [], []
     for line in text.splitlines():
         if line.startswith("#"):
-            remarks.append(line[1:].strip())
+            remarks += [] if line[1:].strip().startswith(tuple(unsaid)) else [line[1:].strip()]
         elif line.strip():
             steps.append({"say": paragraphs(without_heading(remarks, not steps)), "line": line.strip()})
             remarks = []
@@ -42,13 +43,19 @@ def with_questions(name, steps, questions):
         found = [step for step in steps if step["line"] == question["line"]]
         if len(found) < question["nth"]:
             raise SystemExit(f"page: lesson {name} has no line {question['line']!r} for the {question['nth']}. time")
-        found[question["nth"] - 1]["question"] = {key: question[key] for key in ("ask", "choices", "right", "why")}
+        asked = found[question["nth"] - 1]
+        asked["say"] = []
+        asked["question"] = {key: question[key] for key in ("ask", "choices", "right", "why")}
     return steps
 
 
 def lessons(root):
     for lesson in json.loads((root / "page/lessons.json").read_text(encoding="utf-8")):
-        steps = entries((root / f"lessons/{lesson['name']}.txt").read_text(encoding="utf-8"))
+        text = (root / f"lessons/{lesson['name']}.txt").read_text(encoding="utf-8")
+        for start in lesson["unsaid"]:
+            if not any(line[1:].strip().startswith(start) for line in text.splitlines() if line.startswith("#")):
+                raise SystemExit(f"page: lesson {lesson['name']} has no remark {start!r}")
+        steps = entries(text, lesson["unsaid"])
         yield {"name": lesson["name"], "title": lesson["title"], "entries": with_questions(lesson["name"], steps, lesson["questions"])}
 
 

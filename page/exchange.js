@@ -64,7 +64,7 @@ class Exchange extends Steps {
         const profile = profileBytes(board);
         const state = this.library.fresh();
         const { number } = this.library.read({ profile, state, flash: this.flash }, FIRST_ADDRESS);
-        if (number > 1) throw new LineError(numberText(number));
+        if (number > 1) throw new LineError([numberText(number), ...this.wrongSettings(board)].join('; '));
         return {
             hold: false,
             ...now,
@@ -76,6 +76,16 @@ class Exchange extends Steps {
             onBus: null, lastRead: null, plan: null,
             counts: new Uint16Array(pagesOf(board)), olds: new Map(),
         };
+    }
+
+    // The settings that the library refuses by themselves, S and O with the board's page.
+    wrongSettings(board) {
+        const paged = { ...DEFAULT_BOARD, bus: board.bus, page: board.page === 128 ? 128 : 64 };
+        const refused = field => {
+            const profile = profileBytes({ ...paged, [field]: board[field] });
+            return this.library.read({ profile, state: this.library.fresh(), flash: this.flash }, FIRST_ADDRESS).number > 1;
+        };
+        return Object.values(BOARD_NUMBERS).filter(([field]) => refused(field)).map(([field, name]) => `wrong: ${name} ${board[field]}`);
     }
 
     lostBy(profile, after, flash) {
@@ -109,7 +119,8 @@ class Exchange extends Steps {
 
     do_damage({ what, hit }) {
         const field = what === 'byte' ? 'frameHits' : 'replyHits';
-        return { kind: 'damage', what, hit, after: { ...this.now, [field]: withDamage(this.now[field], hit) } };
+        const list = withDamage(this.now[field], hit);
+        return { kind: 'damage', what, hit, whole: list.length < this.now[field].length, after: { ...this.now, [field]: list } };
     }
 
     do_lose({ what, after }) {
@@ -153,9 +164,9 @@ class Exchange extends Steps {
     }
 
     // The frame that an action would send; null for one that sends none.
-    frameOf(action) {
+    frameOf(action, to = this.now.to) {
         switch (action?.do) {
-            case 'request': return this.encode(action.code, action.a, action.b, action.data);
+            case 'request': return this.encode(action.code, action.a, action.b, action.data, to);
             case 'general': return this.library.general(this.bus, this.now.board.longest, action.reset);
             case 'send': return { number: 0, frame: this.bus === 0 ? action.bytes.slice(1) : action.bytes };
             case 'next': return this.now.plan ? this.frameOf(this.planned(this.now.plan)) : null;
@@ -178,9 +189,8 @@ class Exchange extends Steps {
     }
 
     // Which argument of a request the encoder refuses, by what it says to the others alone; with the most that it takes.
-    wrongArgument({ code, a, b, data }) {
-        const { to } = this.now;
-        const made = (...args) => this.encode(code, ...args).number === 0;
+    wrongArgument({ code, a, b, data }, to = this.now.to) {
+        const made = (...args) => this.encode(code, ...args, to).number === 0;
         const [free, none] = [16, NO_BYTES];
         if (to === 0) return { name: 'all' };
         if (code === 0x01 && !made(a, 0, none)) {

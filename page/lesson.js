@@ -13,7 +13,7 @@ class Lesson {
         this.lesson = lesson;
         this.session = session;
         this.place = 0;
-        this.mark = 0;
+        this.path = [];
         this.choice = null;
         this.verdict = null;
         this.asked = 0;
@@ -26,10 +26,16 @@ class Lesson {
         return this.lesson.entries[this.place] ?? null;
     }
 
-    // The entry's line is done: what was tried besides is put aside, and the frames of an upload go all at once.
+    // Whether the board is where the lesson left it, by its own steps alone.
+    get onPath() {
+        const { session, path } = this;
+        return session.at === path.length && session.last === (path.at(-1) ?? null);
+    }
+
+    // The entry's line is done, on the lesson's own steps: what was tried besides is put aside. The frames of an upload go all at once.
     act() {
         const { session, entry } = this;
-        if (session.at !== this.mark) session.go(this.mark);
+        session.follow(this.path);
         this.refusal = null;
         try {
             session.run(entry.line);
@@ -54,17 +60,17 @@ class Lesson {
             const right = this.choice === question.right;
             this.asked += 1;
             this.right += right ? 1 : 0;
-            this.verdict = { right, question, choice: this.choice, say: this.entry.say };
+            this.verdict = { right, question, choice: this.choice };
         }
         this.choice = null;
         this.said = this.summary();
-        this.mark = this.session.at;
+        this.path = this.session.steps.slice(0, this.session.at);
         this.place += 1;
     }
 
     // What was said on the way of several frames, and at their end.
     summary() {
-        const steps = this.session.steps.slice(this.mark, this.session.at);
+        const steps = this.session.steps.slice(this.path.length, this.session.at);
         if (steps.length < 2) return [];
         const ends = steps.flatMap((step, i) => tell(step).filter(({ side, text }) => step.end && i === steps.length - 1 && side !== 'bus'
             ? !text.startsWith('changed: ') && !/^(number|status) /.test(text) : side === 'alarm' && !/still wait/.test(text)));
@@ -81,10 +87,15 @@ class Lesson {
         return null;
     }
 
+    // The byte of the next frame that the lesson asks to be damaged; 0 for none.
+    get wanted() {
+        return Number(/^damage byte (\d+)$/.exec(this.entry?.line ?? '')?.[1] ?? 0);
+    }
+
     // Whether a line that is done on the page is the one that the lesson waits for.
     waitsFor(line) {
         const { entry } = this;
-        if (entry === null || entry.line !== line || this.session.at !== this.mark) return false;
+        if (entry === null || entry.line !== line || !this.onPath) return false;
         return (!entry.question || this.choice !== null) && !/^(upload|reset-running)/.test(line);
     }
 }
@@ -96,7 +107,8 @@ function drawLesson(lesson, actions) {
     const { entry, verdict, refusal } = lesson;
     const total = lesson.lesson.entries.length;
     box.replaceChildren(...[
-        el('h2', {}, lesson.lesson.title, ' ', el('small', {}, `${Math.min(lesson.place + 1, total)} of ${total}`)),
+        el('h2', {}, lesson.lesson.title, ' ', el('small', {}, `part ${Math.min(lesson.place + 1, total)} of ${total}`)),
+        lesson.onPath ? null : el('p', { class: 'verdict', id: 'off-path' }, WORDS.page.offPath),
         refusal ? el('p', { class: 'verdict' }, `The line was refused: ${refusal}`) : null,
         verdict ? drawVerdict(verdict) : null,
         lesson.said.length ? el('div', { class: 'verdict' }, lesson.said.map(text => el('div', {}, text))) : null,
@@ -104,11 +116,10 @@ function drawLesson(lesson, actions) {
     ].filter(Boolean));
 }
 
-// The answer, and what the lesson says of it, which is not shown before.
-function drawVerdict({ right, question, choice, say }) {
+function drawVerdict({ right, question, choice }) {
     return el('div', { class: 'verdict', id: 'verdict' },
         el('strong', {}, right ? '✔ As you expected. ' : `✘ Not so. You expected: ${question.choices[choice] ?? 'nothing'}. `),
-        question.why, say.map(text => el('p', {}, text)));
+        question.why);
 }
 
 function drawEntry(lesson, entry, actions) {
@@ -116,7 +127,7 @@ function drawEntry(lesson, entry, actions) {
     const look = LOOK[line];
     const ready = !question || lesson.choice !== null;
     return [
-        ...question ? [] : say.map(text => el('p', {}, text)),
+        ...say.map(text => el('p', {}, text)),
         look ? el('p', {}, look)
             : el('p', {}, 'Now: ', el('span', { class: 'line' }, shortened(line, 200)), ' ', el('small', {}, lineWords(line))),
         question ? drawQuestion(lesson, question, actions) : null,

@@ -237,8 +237,9 @@ function general(words, reset) {
     return { do: 'general', reset };
 }
 
-// A case: a heading, and a line for each step.
+// A case: a heading, a line for each step, and the word end, so that a case that was cut is noticed.
 const CASE_HEADING = 'childbus case 1';
+const CASE_END = 'end';
 
 function caseText(lines) {
     const joined = [];
@@ -247,11 +248,13 @@ function caseText(lines) {
         if (line === 'next' && last?.startsWith('next')) joined[joined.length - 1] = `next ${Number(last.slice(5) || 1) + 1}`;
         else joined.push(line);
     }
-    return [CASE_HEADING, ...joined, ''].join('\n');
+    return [CASE_HEADING, ...joined, CASE_END, ''].join('\n');
 }
 
 function caseLines(text) {
     const lines = text.replace(/^\ufeff/, '').split(/\r?\n/);
     if (lines[0].trim() !== CASE_HEADING) throw new LineError(`this is no case: its first line is not "${CASE_HEADING}"`);
-    return lines.slice(1).map((line, i) => ({ line: line.trim(), place: i + 2 })).filter(({ line }) => line !== '');
+    const steps = lines.slice(1).map((line, i) => ({ line: line.trim(), place: i + 2 })).filter(({ line }) => line !== '');
+    if (steps.pop()?.line !== CASE_END) throw new LineError(`a part of it is missing: its last line is not "${CASE_END}"`);
+    return steps;
 }

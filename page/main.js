@@ -15,6 +15,10 @@ class Page {
         this.image = null;
         this.busy = false;
         this.welcomed = false;
+        // whether the master's form, and its address, were changed by hand since the last lesson's step
+        this.typed = false;
+        this.typedTo = false;
+        this.done = new Set();
         this.view = new View(this);
         this.listen();
         this.openLink();
@@ -25,12 +29,15 @@ class Page {
 
     // Does a line; a refused one says why, and changes nothing.
     run(line) {
+        return this.attempt(() => this.follow(line));
+    }
+
+    // The same, and the lesson goes on if it waits for this line.
+    follow(line) {
         const follows = this.lesson?.waitsFor(line);
-        return this.attempt(() => {
-            const step = this.session.run(line);
-            if (follows) this.lesson.follow();
-            return step;
-        });
+        const step = this.session.run(line);
+        if (follows) this.lesson.follow();
+        return step;
     }
 
     attempt(act) {
@@ -52,10 +59,13 @@ class Page {
     }
 
     draw() {
+        const { activeElement } = document;
+        const key = activeElement?.dataset?.key ?? activeElement?.id;
         this.drawArguments();
-        this.view.draw(this.session, this.preview());
+        this.view.draw(this.session, this.preview(), this.busy);
         drawLesson(this.lesson, this);
         this.lock();
+        if (key) this.view.focus(key);
     }
 
     // While an upload goes on by itself only its pause can be pressed; while a reply is on the bus, nothing else goes there.
@@ -78,7 +88,41 @@ class Page {
         for (const span of document.querySelectorAll('#request .fields')) {
             span.hidden = !span.dataset.for.split(' ').includes(this.command);
         }
-        byId('send').textContent = this.session.now.plan ? 'Send besides' : 'Send';
+        byId('send').textContent = this.session.now.plan || this.lesson ? 'Send in between' : 'Send';
+        byId('send').classList.toggle('main', this.lesson === null);
+        if (!this.typedTo) byId('to').value = this.session.now.to;
+    }
+
+    // Where the master's form sends to: what is typed, or else where it sent to before.
+    get to() {
+        const typed = byId('to').value.trim();
+        return this.typedTo && /^\d+$/.test(typed) && Number(typed) < 256 ? Number(typed) : this.session.now.to;
+    }
+
+    // Another address that was typed is where the master sends to from now on.
+    takeTo() {
+        const typed = byId('to').value.trim();
+        const other = this.typedTo && typed !== String(this.session.now.to);
+        this.typedTo = false;
+        if (other) this.session.run(`to ${typed}`);
+    }
+
+    // A request of the master's form. The next write goes where this one ended.
+    send() {
+        const step = this.attempt(() => {
+            this.takeTo();
+            return this.follow(this.line());
+        });
+        if (step?.asked?.code !== 0x06 || step.decoded?.status !== 0 || this.command !== 'write') return;
+        byId('flash-address').value = stateFields(step.after.state).next;
+        this.draw();
+    }
+
+    // Damage to a byte of the next frame, by a click on it.
+    damage(byte) {
+        const wanted = this.lesson?.onPath ? this.lesson.wanted : 0;
+        this.run(`damage byte ${byte}`);
+        if (wanted && wanted !== byte) this.say(`The lesson asks for byte ${wanted}, which is marked. Back takes this one back.`);
     }
 
     // The line that the master's form makes.
@@ -101,11 +145,15 @@ class Page {
     preview() {
         const { session } = this;
         try {
-            const action = session.now.plan ? { do: 'next' } : this.lesson?.coming(this.files) ?? parseLine(this.line(), this.files);
+            const coming = session.now.plan ? { do: 'next' } : this.typed ? null : this.lesson?.coming(this.files);
+            const action = coming ?? parseLine(this.line(), this.files);
             const asked = session.now.plan ? session.planned(session.now.plan) : action;
             const general = asked.do === 'general' || asked.do === 'frame';
-            const to = general ? 0 : asked.do === 'send' ? asked.bytes[0] : session.now.to;
-            return { ...session.frameOf(action), general, to };
+            const to = coming ? session.now.to : this.to;
+            const made = session.frameOf(action, to);
+            const wrong = made?.number === 7 ? tellWrong(session.bus, session.wrongArgument(asked, to)).map(line => line.text) : [];
+            const shown = general ? 0 : asked.do === 'send' ? asked.bytes[0] : to;
+            return { ...made, general, wrong, to: shown, wanted: this.lesson?.wanted ?? 0 };
         } catch (error) {
             if (!(error instanceof LineError)) throw error;
             return { error: error.message };
@@ -118,21 +166,22 @@ class Page {
         return this.image ? dataText(this.image.bytes) : this.dataLine(byId('image').value.trim());
     }
 
+    // A file that was dropped or chosen: a case, or an image.
     async takeFile(file) {
-        if (file.size > MOST_BYTES) {
-            this.say(`${file.name} is not taken, and nothing has changed: it has ${file.size} bytes, at most ${MOST_BYTES} are taken`);
-            return;
+        const refuse = why => this.say(`${file.name} is not taken, and nothing has changed: ${why}`);
+        let text;
+        try {
+            text = new TextDecoder('latin1').decode(await file.slice(0, 200).arrayBuffer());
+        } catch {
+            return refuse('it is a folder, or cannot be read');
         }
-        const bytes = new Uint8Array(await file.arrayBuffer());
-        const text = new TextDecoder('latin1').decode(bytes.subarray(0, 200));
-        if (text.replace(/^\xef\xbb\xbf/, '').startsWith(CASE_HEADING.slice(0, 13))) {
-            this.openCase(new TextDecoder().decode(bytes));
-            return;
-        }
-        if (bytes.length === 0) {
-            this.say(`${file.name} is not taken, and nothing has changed: it is empty`);
-            return;
-        }
+        if (text.replace(/^\xef\xbb\xbf/, '').startsWith(CASE_HEADING.slice(0, 13))) return this.openCase(await file.text());
+        if (file.size > MOST_BYTES) return refuse(`it has ${file.size} bytes, at most ${MOST_BYTES} are taken`);
+        if (file.size === 0) return refuse('it is empty');
+        return this.takeImage(file, new Uint8Array(await file.arrayBuffer()), text);
+    }
+
+    takeImage(file, bytes, text) {
         this.image = { name: file.name, bytes };
         const note = HEX_RECORD.test(text) ? ` It ${WORDS.board.hex}: its characters are taken as bytes.` : '';
         byId('image-note').textContent = `${file.name}, ${counted(bytes.length, 'byte')}.${note} Begin uploads it.`;
@@ -173,6 +222,7 @@ class Page {
 
     // Opens a case: it is tried beside, and taken only if every line of it is understood.
     openCase(text) {
+        this.busy = false;
         try {
             const session = new Session(this.library, this.files);
             for (const { line, place } of caseLines(text)) this.caseLine(session, line, place);
@@ -226,9 +276,11 @@ class Page {
 
     lessonBegin(lesson) {
         byId('lessons-dialog').close();
+        this.welcomed = true;
         if (this.lesson === null) this.kept = this.session;
         this.session = new Session(this.library, this.files);
         this.lesson = new Lesson(lesson, this.session);
+        this.typed = false;
         this.say('');
         this.draw();
     }
@@ -240,7 +292,9 @@ class Page {
 
     lessonAct() {
         this.say('');
+        this.typed = false;
         this.lesson.act();
+        if (!this.lesson.entry) this.done.add(this.lesson.lesson.name);
         this.draw();
     }
 
@@ -270,12 +324,15 @@ class Page {
             this.session.restore();
             this.draw();
         });
-        submit('request', () => this.run(this.line()));
-        byId('request').addEventListener('input', () => this.draw());
-        byId('to').addEventListener('change', () => this.run(`to ${byId('to').value.trim()}`));
-        click('read-again', () => this.run('i2c-read'));
-        click('reset-running', () => this.run('reset-running'));
-        submit('upload', () => this.run(`upload ${this.imageText()} frames ${byId('frames').value.trim()}`));
+        submit('request', () => this.send());
+        byId('to').addEventListener('input', () => { this.typedTo = true; });
+        byId('request').addEventListener('input', () => {
+            this.typed = true;
+            this.draw();
+        });
+        click('read-again', () => this.sendTo('i2c-read'));
+        click('reset-running', () => this.sendTo('reset-running'));
+        submit('upload', () => this.sendTo(`upload ${this.imageText()} frames ${byId('frames').value.trim()}`));
         byId('image').addEventListener('input', () => this.forgetFile());
         click('next', () => this.run('next'));
         click('all', () => this.goOn());
@@ -296,6 +353,14 @@ class Page {
         this.listenDialogs(click, submit);
         document.addEventListener('keydown', event => this.key(event));
         window.addEventListener('hashchange', () => this.openLink());
+    }
+
+    // A line that goes where the form says.
+    sendTo(line) {
+        this.attempt(() => {
+            this.takeTo();
+            return this.follow(line);
+        });
     }
 
     forgetFile() {
@@ -325,12 +390,10 @@ class Page {
         for (const close of document.querySelectorAll('dialog .close')) {
             close.addEventListener('click', () => close.closest('dialog').close());
         }
-        click('show-lessons', () => byId('lessons-dialog').showModal());
+        click('show-lessons', () => this.showLessons());
         click('show-help', () => byId('help-dialog').showModal());
         click('show-board', () => this.showBoard());
         click('show-case', () => this.showCase());
-        byId('lesson-list').replaceChildren(...LESSONS.map(lesson => el('li', {},
-            el('button', { type: 'button', id: `lesson-${lesson.name}`, onclick: () => this.lessonBegin(lesson) }, lesson.title))));
         submit('board-form', event => {
             byId('board-dialog').close();
             if (event.submitter?.value === 'flash') this.run(`flash fill ${byId('set-fill').value.trim()}`);
@@ -338,6 +401,10 @@ class Page {
         });
         click('save-case', () => this.saveCase());
         click('link-case', () => this.showLink());
+        click('copy-link', () => {
+            byId('link').select();
+            navigator.clipboard?.writeText(byId('link').value).catch(() => {});
+        });
         click('open-case', () => {
             byId('case-dialog').close();
             this.openPasted(byId('case-paste').value);
@@ -347,6 +414,16 @@ class Page {
             this.openCase(await file.text());
             event.target.value = '';
         }));
+    }
+
+    // The three errors first; those that were taken to their end have a mark.
+    showLessons() {
+        const item = lesson => el('li', {}, button(`lesson-${lesson.name}`, `${this.done.has(lesson.name) ? '✔ ' : ''}${lesson.title}`,
+            () => this.lessonBegin(lesson)));
+        byId('lesson-list').replaceChildren(
+            el('h3', {}, 'The three errors'), el('ul', {}, LESSONS.slice(0, 3).map(item)),
+            el('h3', {}, 'Further lessons'), el('ul', {}, LESSONS.slice(3).map(item)));
+        byId('lessons-dialog').showModal();
     }
 
     showBoard() {
@@ -368,7 +445,7 @@ class Page {
 
     showCase() {
         byId('case-text').value = caseText(this.session.lines());
-        byId('link').hidden = true;
+        byId('link-row').hidden = true;
         byId('case-dialog').showModal();
     }
 
@@ -381,10 +458,9 @@ class Page {
     showLink() {
         const link = this.link();
         const fits = link.length <= LINK_MOST;
-        byId('link').hidden = false;
+        byId('link-row').hidden = false;
         byId('link').value = fits ? link : 'This case is too long for a link: save it as a file.';
         byId('link').select();
-        if (fits) navigator.clipboard?.writeText(link).catch(() => {});
     }
 
     key(event) {

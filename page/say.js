@@ -30,6 +30,9 @@ function tellAlarm({ alarm, words, look, do: todo }) {
     ];
 }
 
+// An alarm about what is as it should be, and must be known all the same.
+const calm = told => told.map(line => line.side === 'alarm' ? { ...line, calm: true } : line);
+
 // ---- the frame, and the board's answer
 
 function tellHits(bytes, hits) {
@@ -123,7 +126,7 @@ function tellAlarms({ lost, unworn, decoded, after }) {
     const wait = ok ? WORDS.alarms.okWaiting : WORDS.alarms.waiting;
     return [
         ...lost ? tellAlarm({ alarm: few(WORDS.alarms.lost, lost), do: WORDS.alarms.lost.do }) : [],
-        ...waiting ? tellAlarm({ alarm: few(wait, waiting), do: wait.do }) : [],
+        ...waiting ? calm(tellAlarm({ alarm: few(wait, waiting), do: wait.do })) : [],
         ...unworn ? [said('alarm', (next === 0 ? WORDS.alarms.empty : WORDS.alarms.unworn).words, { fine: true })] : [],
     ];
 }
@@ -206,7 +209,7 @@ function tellMaster(bus, step) {
 function tellCall(bus, step) {
     const { asked, sent, frameHits, frameLost, reply, before, after, pages } = step;
     const request = [said('bus', `${filled(WORDS.call.request, asked.to)}${bytesText(sent)}`), ...tellHits(sent, frameHits)];
-    if (frameLost) return [...request, said('bus', WORDS.page.frameLost), ...tellMaster(bus, step)];
+    if (frameLost) return [...request, said('bus', WORDS.page.frameLost), ...tellMaster(bus, step), ...tellAlarms(step)];
     return [
         ...request,
         ...reply ? tellReply(step) : tellAnswer(step),
@@ -223,15 +226,19 @@ function tellRead(bus, step) {
     const told = [...tellReply(step), ...tellMaster(bus, step)];
     const which = step.which === null || step.which === undefined ? [] : [said('master', WORDS.page.reads[step.which])];
     const entry = step.decoded?.number === 0 && step.decoded.status === 0 ? WORDS.alarms.okWaiting : WORDS.alarms.waiting;
-    return [...told, ...waiting ? tellAlarm({ alarm: few(entry, waiting), do: entry.do }) : [], ...which];
+    return [...told, ...waiting ? calm(tellAlarm({ alarm: few(entry, waiting), do: entry.do })) : [], ...which];
+}
+
+function damageKey(what, whole) {
+    return `${whole ? 'whole' : 'hit'}${what === 'byte' ? 'Frame' : 'Reply'}`;
 }
 
 function tellSetting(step) {
-    const { kind, after, lost, fill, hit, what, count, length } = step;
+    const { kind, after, lost, fill, hit, whole, what, count, length } = step;
     const { waiting } = stateFields(after.state);
     const { board } = after;
     const losing = lost ? tellAlarm({ alarm: few(WORDS.alarms.lost, lost), do: WORDS.alarms.lost.do }) : [];
-    const later = n => n ? `, ${filled(WORDS.page.later, n)}` : '';
+    const later = n => n ? `, ${filled(WORDS.page.later, counted(n, 'other'))}` : '';
     switch (kind) {
         case 'board': {
             const text = filled(WORDS.board.profile, board.longest, board.page, board.size, board.offset, board.hardware);
@@ -243,7 +250,7 @@ function tellSetting(step) {
         ];
         case 'to': return [said('master', filled(WORDS.master.now, after.to))];
         case 'application': return [said('board', after.answers ? WORDS.board.answers : WORDS.board.silent)];
-        case 'damage': return [said('bus', filled(WORDS.page[what === 'byte' ? 'hitFrame' : 'hitReply'], hit.byte) + later(hit.after))];
+        case 'damage': return [said('bus', filled(WORDS.page[damageKey(what, whole)], hit.byte) + later(hit.after))];
         case 'lose': return [said('bus', (what === 'frame' ? WORDS.page.loseFrame : WORDS.page.loseReply) + later(count))];
         case 'hold': return [said('bus', after.hold ? WORDS.page.holdOn : WORDS.page.holdOff)];
         case 'power': return [said('board', WORDS.page.power), ...losing];
@@ -275,7 +282,7 @@ function tell(step) {
     const told = {
         call: () => tellCall(bus, step),
         read: () => tellRead(bus, step),
-        arrival: () => tellMaster(bus, step),
+        arrival: () => [...tellMaster(bus, step), ...tellAlarms(step)],
         unmade: () => tellUnmade(bus, step),
         plan: () => [said('master', step.after.plan.kind === 'upload'
             ? filled(WORDS.page.uploadBegins, step.after.plan.image.length, step.after.plan.piece) : WORDS.page.resetBegins)],

@@ -84,6 +84,21 @@ class Steps {
         this.steps = [...this.steps.slice(0, from), ...lines];
     }
 
+    // Another list of steps from the same beginning, up to its end. What was done instead is put aside.
+    follow(path) {
+        const same = path.every((step, i) => step === this.steps[i]);
+        if (same) {
+            this.go(path.length);
+            return;
+        }
+        const common = path.findIndex((step, i) => step !== this.steps[i]);
+        const other = this.steps.slice(common);
+        this.go(0);
+        this.steps = path.slice();
+        this.go(path.length);
+        this.dropped = other;
+    }
+
     lines() {
         return this.steps.map(step => step.line);
     }

@@ -50,13 +50,14 @@ function cut(parts, n) {
 }
 
 // A frame's bytes in labelled groups. With `click`, each byte is a button that damages it.
-function drawFrame(bytes, parts, { hits = [], beside = null, click = null, key = '' }) {
+function drawFrame(bytes, parts, { hits = [], beside = null, click = null, key = '', wanted = 0 }) {
     const hit = new Set(hits.map(item => item.byte - 1));
     const drawByte = (byte, i) => {
         const damaged = hit.has(i);
-        const shown = hex(damaged ? byte ^ 0xff : byte);
-        const name = `byte ${i + 1}, ${shown}${damaged ? `, damaged, was ${hex(byte)}` : ''}`;
-        const look = `byte${damaged ? ' damaged' : ''}`;
+        const now = hex(damaged ? byte ^ 0xff : byte);
+        const shown = damaged ? [el('s', {}, hex(byte)), now] : now;
+        const name = `byte ${i + 1}, ${now}${damaged ? `, damaged, was ${hex(byte)}` : ''}`;
+        const look = `byte${damaged ? ' damaged' : ''}${wanted === i + 1 && !damaged ? ' wanted' : ''}`;
         if (!click) return el('span', { class: look, title: name }, shown);
         return el('button', { type: 'button', class: look, 'aria-label': name, 'aria-pressed': String(damaged), 'data-key': `${key}${i}`,
             title: `Damage ${name}`, onclick: () => click(i + 1) }, shown);
@@ -68,6 +69,17 @@ function drawFrame(bytes, parts, { hits = [], beside = null, click = null, key =
     return el('div', { class: 'groups', 'data-roving': click ? key : null }, beside === null ? [] : address(), groups);
 }
 
+// A reply that the master cannot use, or a status other than OK.
+function isFailure({ side, text, number }) {
+    return side === 'master' && (number >= 7 && number <= 13 || /^status [1-9]/.test(text));
+}
+
+// Advice that names a line of the bench, with where the page has it.
+function hereText(text) {
+    const found = Object.keys(WORDS.page.here).find(name => text.includes(name));
+    return found ? `${text} (${WORDS.page.here[found]})` : text;
+}
+
 // What docs/NUMBERS.md says of a number or a status.
 function more({ means, next }) {
     return el('details', {}, el('summary', {}, 'more'), el('p', {}, means), el('p', { class: 'do' }, next));
@@ -77,6 +89,14 @@ const PHASES = {
     info: 'it asks the board who it is', write: 'writing', finalize: 'all bytes are accepted: finalize is next', read: 'reading back',
 };
 
+// Where the focus goes when a button is gone.
+const AFTER = {
+    'do-it': ['choice-0', 'next-lesson', 'leave-lesson'], 'next-lesson': ['do-it', 'choice-0'], 'begin-lesson': ['do-it'],
+    begin: ['next'], 'reset-running': ['next'], next: ['begin'], all: ['pause', 'next', 'begin'], pause: ['next', 'begin'],
+    stop: ['begin'],
+    send: ['arrive'], arrive: ['send'], 'lose-reply': ['send'],
+};
+
 class View {
     constructor(actions) {
         this.actions = actions;
@@ -84,19 +104,25 @@ class View {
         document.addEventListener('keydown', event => this.arrow(event));
     }
 
-    // ---- the whole page, with the focus where it was
+    // ---- the whole page. While an upload goes on by itself the alarms stand still, so that nothing moves under the hand.
 
-    draw(session, preview) {
-        const key = document.activeElement?.dataset?.key;
+    draw(session, preview, busy) {
         const told = session.last ? tell(session.last) : [];
         this.drawPlace(session);
-        this.drawAlarms([...told, ...session.earlierAlarms()]);
+        if (!busy) this.drawAlarms([...told, ...session.earlierAlarms()]);
         this.drawMaster(session, told);
         this.drawBus(session, preview, told);
         this.drawBoard(session, told);
         this.drawSteps(session);
         document.querySelectorAll('[data-roving]').forEach(group => this.rove(group));
-        if (key) document.querySelector(`[data-key="${CSS.escape(key)}"]`)?.focus();
+    }
+
+    // The focus goes back to where it was, or, where that is gone, to what comes after it.
+    focus(key) {
+        const places = [key, ...AFTER[key] ?? (key.startsWith('choice') ? AFTER['do-it'] : [])];
+        const found = places.map(place => document.querySelector(`[data-key="${CSS.escape(place)}"]`) ?? byId(place))
+            .find(node => node && !node.disabled && node.offsetParent !== null);
+        if (found && found !== document.activeElement) found.focus();
     }
 
     drawPlace(session) {
@@ -105,17 +131,26 @@ class View {
         byId('back').disabled = at === 0;
         byId('forward').disabled = at === steps.length;
         byId('restore').hidden = dropped.length === 0;
-        byId('restore').textContent = `Bring back ${counted(dropped.length, 'other step')}`;
+        byId('restore').textContent = `Bring back ${counted(dropped.length, 'step')} put aside`;
     }
 
-    // An alarm with what to do about it.
+    // An alarm with what to do about it. A reply that cannot be used, or a refusal, comes first: what it asks for is right, and not what
+    // is to be done about waiting bytes when all is well.
     drawAlarms(told) {
-        const alarms = [];
-        for (const line of told) {
-            if (line.side === 'alarm') alarms.push(el('div', { class: line.fine ? 'alarm fine' : 'alarm' }, el('strong', {}, line.text)));
-            else if (this.follows(told, line)) alarms.at(-1).append(el('div', { class: line.side }, line.text));
+        const failed = told.filter(line => isFailure(line));
+        const boxes = failed.map(line => this.alarmBox('alarm failure', line.text, told, line, true));
+        for (const line of told.filter(item => item.side === 'alarm')) {
+            const look = line.fine ? 'alarm fine' : line.calm ? 'alarm calm' : 'alarm';
+            boxes.push(this.alarmBox(look, line.text, told, line, !(line.calm && failed.length)));
         }
-        byId('alarms').replaceChildren(...alarms);
+        byId('alarms').replaceChildren(...boxes);
+    }
+
+    alarmBox(look, text, told, line, advised) {
+        const rest = told.slice(told.indexOf(line) + 1);
+        const end = rest.findIndex(item => !ADVICE.includes(item.side));
+        const lines = advised ? rest.slice(0, end < 0 ? rest.length : end) : [];
+        return el('div', { class: look }, el('strong', {}, text), lines.map(item => el('div', { class: item.side }, hereText(item.text))));
     }
 
     // Whether a line is advice that belongs to an alarm: only such lines stand between them.
@@ -131,7 +166,7 @@ class View {
         let shown = false;
         for (const line of told) {
             if (ADVICE.includes(line.side)) {
-                if (shown && !this.follows(told, line)) nodes.push(el('p', { class: line.side }, line.text));
+                if (shown && !this.follows(told, line)) nodes.push(el('p', { class: line.side }, hereText(line.text)));
                 continue;
             }
             shown = sides.includes(line.side);
@@ -148,7 +183,6 @@ class View {
     drawMaster(session, told) {
         const { now } = session;
         const { plan } = now;
-        if (document.activeElement !== byId('to')) byId('to').value = now.to;
         byId('read-again').hidden = now.board.bus !== 0;
         byId('plan').hidden = !plan;
         byId('upload').hidden = Boolean(plan);
@@ -166,8 +200,8 @@ class View {
             ? `Upload, ${PHASES[plan.phase]}: ${done}, ${counted(count, 'page')} erased, ${counted(waiting, 'byte')} waiting`
             : 'reset-running';
         byId('progress').hidden = !upload;
-        byId('progress').max = upload ? 2 * plan.image.length : 1;
-        byId('progress').value = upload ? plan.place + (reading ? plan.image.length : 0) : 0;
+        byId('progress').max = upload ? plan.image.length : 1;
+        byId('progress').value = upload ? plan.place : 0;
     }
 
     // ---- bus
@@ -183,12 +217,12 @@ class View {
 
     nextFrame({ now }, preview) {
         if (!preview) return [];
-        const { frame, to, general, number, error } = preview;
-        const none = error ?? (number === 0 ? null : `none: ${numberText(number)}`);
+        const { frame, to, general, number, error, wrong, wanted } = preview;
+        const none = error ?? (number === 0 ? null : [numberText(number), ...wrong].join('; '));
         if (none) return [el('div', { class: 'frame' }, el('h3', {}, 'Next frame'), el('p', { class: 'gone' }, none))];
         const lost = due(now.frameLosses).length > 0;
         const { bus } = now.board;
-        const damage = { hits: due(now.frameHits), click: byte => this.actions.run(`damage byte ${byte}`), key: 'frame-' };
+        const damage = { hits: due(now.frameHits), click: byte => this.actions.damage(byte), key: 'frame-', wanted };
         const lose = button('lose-frame', lost ? 'This frame will be lost' : 'Lose this frame', () => this.actions.run('lose frame'),
             { disabled: lost });
         return [el('div', { class: 'frame' },
@@ -199,7 +233,7 @@ class View {
 
     // Damage and losses that stand before later frames and replies.
     ahead(now) {
-        const later = after => after ? `, ${filled(WORDS.page.later, after)}` : '';
+        const later = after => after ? `, ${filled(WORDS.page.later, counted(after, 'other'))}` : '';
         const texts = [
             ...now.replyHits.map(({ byte, after }) => filled(WORDS.page.hitReply, byte) + later(after)),
             ...now.replyLosses.map(({ after }) => WORDS.page.loseReply + later(after)),
@@ -223,7 +257,7 @@ class View {
     // The last frame, and the last reply to it, on the way or read once more.
     wire(session) {
         const { sent, replied } = session.lastFrames();
-        return [...sent ? [this.sentFrame(sent)] : [], ...replied ? [this.replyFrame(replied)] : []];
+        return [...sent ? [this.sentFrame(sent)] : [], ...replied && !session.now.onBus ? [this.replyFrame(replied)] : []];
     }
 
     sentFrame({ sent, frameHits, frameLost, asked, after }) {
@@ -245,7 +279,8 @@ class View {
         const { now } = session;
         const { board } = now;
         const fields = stateFields(now.state);
-        byId('board-name').textContent = `type ${board.hardware}, S ${board.size}, O ${board.offset}, pages of ${board.page} bytes`;
+        byId('board-name').textContent = `type ${board.hardware}, ${board.size} bytes of working flash (S) from ${board.offset} (O) on`;
+        byId('flash-name').textContent = `Flash, in pages of ${board.page} bytes`;
         byId('application').checked = now.answers;
         this.drawFacts(now, fields);
         this.drawWaiting(board, fields);
@@ -263,7 +298,7 @@ class View {
             ['runs', fields.running ? application : 'the bootloader'],
             ['next address', fields.next],
             ['erase count', `${fields.count}, since the write at 0`],
-            ['last reply', fields.last ? `${counted(fields.last, 'byte')}, kept for I²C reads` : 'none'],
+            ...now.board.bus === 0 ? [['last reply', fields.last ? `${counted(fields.last, 'byte')}, kept for reads` : 'none']] : [],
             ['tally', `${answered} answered${now.board.bus === 0 ? '' : dropped}`],
         ];
         byId('facts').replaceChildren(...facts.flatMap(([name, value]) =>
@@ -296,7 +331,7 @@ class View {
         byId('map').scrollTop = now.plan && waits !== session.shown ? this.rowOf(next / board.page) : scrollTop;
         session.shown = waits;
         byId('legend').replaceChildren(...[
-            ['page', '.', 'untouched'], ['page worn', '2', 'rewritten so often (+ ten times or more)'],
+            ['page', '.', 'not rewritten yet'], ['page worn', '2', 'rewritten so often (+ ten times or more)'],
             ['page expected', '.!', 'about to be rewritten'], ['page waits', '.w', 'bytes wait for it'],
         ].flatMap(([look, mark, text]) => [el('span', { class: look }, mark), ` ${text}  `]));
     }
@@ -344,8 +379,8 @@ class View {
     // ---- steps
 
     drawSteps({ steps, at }) {
-        const from = Math.max(0, Math.min(at - 12, steps.length - 24));
-        const shown = steps.slice(from, from + 24);
+        const from = Math.max(0, Math.min(at - 50, steps.length - 100));
+        const shown = steps.slice(from, from + 100);
         byId('steps').start = from + 1;
         byId('steps').replaceChildren(...shown.map((step, i) => {
             const place = from + i + 1;
@@ -353,6 +388,8 @@ class View {
             const look = place === at ? 'now' : place > at ? 'later' : '';
             return el('li', { class: look }, button(`step-${place}`, text, () => this.actions.go(place)));
         }));
+        const here = byId(`step-${at}`);
+        byId('steps').scrollTop = here ? here.offsetTop - byId('steps').clientHeight / 2 : 0;
     }
 
     // ---- keys: within a group of bytes or pages the arrows move, and one of them is in the order of the tabulator
@@ -388,12 +425,12 @@ function statusEntry(text) {
     return found ? WORDS.statuses[found[1]] : null;
 }
 
-// Bytes, sixteen in a row; those that are other ones than in `than` are marked.
+// Bytes, eight in a row; those that are other ones than in `than` are marked.
 function byteTable(first, bytes, than) {
     const rows = [];
-    for (let i = 0; i < bytes.length; i += 16) {
+    for (let i = 0; i < bytes.length; i += 8) {
         const look = (byte, j) => than && than[i + j] !== byte ? 'byte unlike' : 'byte';
-        const cells = Array.from(bytes.slice(i, i + 16), (byte, j) => el('td', {}, el('span', { class: look(byte, j) }, hex(byte))));
+        const cells = Array.from(bytes.slice(i, i + 8), (byte, j) => el('td', {}, el('span', { class: look(byte, j) }, hex(byte))));
         rows.push(el('tr', {}, el('th', {}, String(first + i)), cells));
     }
     return el('table', {}, rows);
