@@ -47,12 +47,7 @@ class Lesson {
         this.pass();
     }
 
-    // The line was done by hand, on the page.
-    follow() {
-        if (!this.entry || this.session.now.plan && this.session.now.onBus) return;
-        this.pass();
-    }
-
+    // The entry's line was done, by the lesson's button or by hand.
     pass() {
         const { question } = this.entry;
         this.verdict = null;
@@ -68,13 +63,13 @@ class Lesson {
         this.place += 1;
     }
 
-    // What was said on the way of several frames, and at their end.
+    // What was said on the way of several frames, and at their end, but for what stands among the alarms.
     summary() {
         const steps = this.session.steps.slice(this.path.length, this.session.at);
         if (steps.length < 2) return [];
-        const ends = steps.flatMap((step, i) => tell(step).filter(({ side, text }) => step.end && i === steps.length - 1 && side !== 'bus'
-            ? !text.startsWith('changed: ') && !/^(number|status) /.test(text) : side === 'alarm' && !/still wait/.test(text)));
-        return ends.map(({ text }) => text);
+        const alarms = steps.slice(0, -1).flatMap(tell).filter(line => line.side === 'alarm' && !line.calm && !line.fine);
+        const end = tellEnd(steps.at(-1)).filter(({ side }) => side !== 'alarm' && !ADVICE.includes(side));
+        return [...alarms, ...end].map(({ text }) => text);
     }
 
     // The next frame that the lesson will send, as an action, to be shown on the bus before it goes.

@@ -29,15 +29,24 @@ class Page {
 
     // Does a line; a refused one says why, and changes nothing.
     run(line) {
-        return this.attempt(() => this.follow(line));
+        return this.attempt(() => this.runLine(line));
     }
 
-    // The same, and the lesson goes on if it waits for this line.
-    follow(line) {
-        const follows = this.lesson?.waitsFor(line);
+    // The same without a message. The lesson goes on if it waits for this line.
+    runLine(line) {
+        const waited = this.lesson?.waitsFor(line);
         const step = this.session.run(line);
-        if (follows) this.lesson.follow();
+        if (waited) this.lesson.pass();
         return step;
+    }
+
+    // A line that goes where the form says; first it is looked at, so that nothing is done of one that is refused.
+    sendLine(line) {
+        return this.attempt(() => {
+            parseLine(line, this.files);
+            this.takeTo();
+            return this.runLine(line);
+        });
     }
 
     attempt(act) {
@@ -109,10 +118,7 @@ class Page {
 
     // A request of the master's form. The next write goes where this one ended.
     send() {
-        const step = this.attempt(() => {
-            this.takeTo();
-            return this.follow(this.line());
-        });
+        const step = this.sendLine(this.line());
         if (step?.asked?.code !== 0x06 || step.decoded?.status !== 0 || this.command !== 'write') return;
         byId('flash-address').value = stateFields(step.after.state).next;
         this.draw();
@@ -153,7 +159,7 @@ class Page {
             const made = session.frameOf(action, to);
             const wrong = made?.number === 7 ? tellWrong(session.bus, session.wrongArgument(asked, to)).map(line => line.text) : [];
             const shown = general ? 0 : asked.do === 'send' ? asked.bytes[0] : to;
-            return { ...made, general, wrong, to: shown, wanted: this.lesson?.wanted ?? 0 };
+            return { ...made, general, wrong, to: shown, wanted: coming ? this.lesson?.wanted : 0 };
         } catch (error) {
             if (!(error instanceof LineError)) throw error;
             return { error: error.message };
@@ -330,9 +336,9 @@ class Page {
             this.typed = true;
             this.draw();
         });
-        click('read-again', () => this.sendTo('i2c-read'));
-        click('reset-running', () => this.sendTo('reset-running'));
-        submit('upload', () => this.sendTo(`upload ${this.imageText()} frames ${byId('frames').value.trim()}`));
+        click('read-again', () => this.sendLine('i2c-read'));
+        click('reset-running', () => this.sendLine('reset-running'));
+        submit('upload', () => this.sendLine(`upload ${this.imageText()} frames ${byId('frames').value.trim()}`));
         byId('image').addEventListener('input', () => this.forgetFile());
         click('next', () => this.run('next'));
         click('all', () => this.goOn());
@@ -353,14 +359,6 @@ class Page {
         this.listenDialogs(click, submit);
         document.addEventListener('keydown', event => this.key(event));
         window.addEventListener('hashchange', () => this.openLink());
-    }
-
-    // A line that goes where the form says.
-    sendTo(line) {
-        this.attempt(() => {
-            this.takeTo();
-            return this.follow(line);
-        });
     }
 
     forgetFile() {

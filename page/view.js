@@ -139,7 +139,8 @@ class View {
     drawAlarms(told) {
         const failed = told.filter(line => isFailure(line));
         const boxes = failed.map(line => this.alarmBox('alarm failure', line.text, told, line, true));
-        for (const line of told.filter(item => item.side === 'alarm')) {
+        const alarms = told.filter(item => item.side === 'alarm');
+        for (const line of alarms.filter((item, i) => alarms.findIndex(({ text }) => text === item.text) === i)) {
             const look = line.fine ? 'alarm fine' : line.calm ? 'alarm calm' : 'alarm';
             boxes.push(this.alarmBox(look, line.text, told, line, !(line.calm && failed.length)));
         }

@@ -103,7 +103,9 @@ def is_shown(screen, last):
     """What is told of the last step stands on the screen, on its side, and so do its bytes."""
     if last is None:
         return
-    same("alarms on the screen", screen["alarms"][:len(last["alarms"])], last["alarms"])
+    # one that is told twice is shown once
+    alarms = list(dict.fromkeys(last["alarms"]))
+    same("alarms on the screen", screen["alarms"][:len(alarms)], alarms)
     failures = [text for text in last["master"] if re.match(r"status [1-9]|number ([7-9]|1[0-3]),", text)]
     same("failures on the screen", screen["failures"], failures)
     for side in ("master", "bus", "board"):
