@@ -1,4 +1,4 @@
-"""Part 4: damaged and lost frames and replies, power off and on, reads, general calls, on both buses, by the page's buttons. Alarms and
+"""Damaged and lost frames and replies, power off and on, reads, general calls, on both buses, by the page's buttons. Alarms and
 facts are as docs/BENCH.md says."""
 
 import json

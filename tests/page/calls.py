@@ -1,4 +1,4 @@
-"""Part 7: random steps in the page, and the same calls through the x86-64 library (calls.c): every byte is the same."""
+"""Random steps in the page, and the same calls through the x86-64 library (calls.c): every byte is the same."""
 
 import random
 import subprocess

@@ -1,4 +1,4 @@
-"""Part 6: cases by links and files. One that is saved and opened gives the same; a broken one is refused with a message, and nothing is
+"""Cases by links and files. One that is saved and opened gives the same; a broken one is refused with a message, and nothing is
 lost."""
 
 import base64

@@ -1,4 +1,4 @@
-"""Part 8: the keyboard alone: a lesson from start to end by Tab, arrows, Space and Enter; arrows within bytes and pages; [ and ]."""
+"""The keyboard alone: a lesson from start to end by Tab, arrows, Space and Enter; arrows within bytes and pages; [ and ]."""
 
 from browser import SHIFT, Wrong, holds, same
 from lessons import bench

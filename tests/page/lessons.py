@@ -1,4 +1,4 @@
-"""Parts 1 and 2: every lesson by its buttons, held to what the bench says to the same lines (lessons/NAME.out), with a picture of its
+"""Every lesson by its buttons, held to what the bench says to the same lines (lessons/NAME.out), with a picture of its
 end."""
 
 import json

@@ -21,7 +21,7 @@ from browser import Wrong, holds, same
 
 
 def parts(program, seed):
-    """Each part by its name; the numbers are those of the list in run."""
+    """Each part by its name, in the order of the list in run."""
     return {
         "lessons": lessons.part,
         "uploads": uploads.part,

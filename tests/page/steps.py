@@ -1,4 +1,4 @@
-"""Part 5: back and forward through everything, a new step in the past, and the steps that it put aside."""
+"""Back and forward through everything, a new step in the past, and the steps that it put aside."""
 
 from browser import holds, same
 

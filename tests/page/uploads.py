@@ -1,4 +1,4 @@
-"""Part 3: a file of 65,472 bytes, dropped and chosen, uploaded at once; and a short upload, one frame at a time."""
+"""A file of 65,472 bytes, dropped and chosen, uploaded at once; and a short upload, one frame at a time."""
 
 import random
 import re

@@ -1,4 +1,4 @@
-"""Part 9: the windows of tablets, print, and a page that needs no other machine."""
+"""The windows of tablets, print, and a page that needs no other machine."""
 
 import base64
 import pathlib

@@ -1,4 +1,4 @@
-"""Part 11: wrong pages, each made by one replacement in the page's file or in its table of words, are noticed by the tests that should."""
+"""Wrong pages, each made by one replacement in the page's file or in its table of words, are noticed by the tests that should."""
 
 import json
 import pathlib
