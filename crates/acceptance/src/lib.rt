@@ -1,4 +1,6 @@
 // Which writes are accepted, and where an upload begins anew.
+#![tactic(auto)]
+
 ghost use Rattle.std.specs.Prelude.{◌≡◌, List, ℕ, ◌+◌, ◌^◌, ◌<◌};
 ghost use Rattle.rules.specs.Commands.{accepted, restarted};
 ghost use Rattle.state.specs.View.{upload_of};

@@ -1,4 +1,6 @@
 // W1, no board at a reserved address, stated where a reader meets it. The functions do nothing.
+#![tactic(auto)]
+
 ghost use Rattle.ledger.specs.Calls.{ruled};
 ghost use Rattle.address_claims.specs.Addresses.{SetAddressAnswered, NeverReserved, NewAddressRead};
 

@@ -1,4 +1,6 @@
 // Document 01, "Frames and check sums": whether a destination is this board. W1: which addresses no board takes.
+#![tactic(auto)]
+
 ghost use Rattle.std.specs.Prelude.{◌≡◌};
 ghost use Rattle.rules.specs.Frames.{address_fits, answers_to, addressed};
 ghost use Rattle.rules.specs.Commands.{reserved};

@@ -1,4 +1,6 @@
 // What the alarms mean for a board that follows the rules, stated where a reader meets it. The functions do nothing.
+#![tactic(auto)]
+
 ghost use Rattle.alarm_claims.specs.Claims.{KeptLosesNothing, FinalizeLosesNothing, IgnoredUntouched};
 
 // A call that leaves the upload as it was loses nothing.

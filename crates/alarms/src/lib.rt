@@ -1,5 +1,7 @@
 // What a technician must not miss after a call: silence that is no dead board, and a finalize that erased nothing. Lost and waiting bytes
 // are decided in `lost_bytes`, the end of an upload in `upload_ends`. The bench only says them.
+#![tactic(auto)]
+
 ghost use Rattle.std.specs.Prelude.{◌≡◌};
 ghost use Rattle.rules.specs.Frames as frames;
 ghost use Rattle.ledger.specs.Ledger.{offsets};

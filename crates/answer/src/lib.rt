@@ -1,5 +1,7 @@
 // What a board call answers: nothing, or the response of a command as a reply in the lent buffer and on I²C in the state as well. Inside,
 // the head of the state goes by value, and its two buffers are lent: that of the last reply is written at the end, by `keep_reply`.
+#![tactic(auto)]
+
 ghost use Rattle.std.specs.Prelude.{◌≡◌, List, [], ℕ, ◌+◌, ◌≤◌, length, take};
 ghost use Rattle.rules.specs.Frames.{header_length};
 ghost use Rattle.rules.specs.Responses as responses;
@@ -17,14 +19,14 @@ use rules::kinds::{Bus, Outcome, Reason};
 use state::{Head, State};
 
 // What a board call answers, and the state after it.
-#[derive(Drop)]
+#[derive(Clone, Copy)]
 pub struct Answer {
     pub outcome: Outcome,
     pub state: State,
 }
 
 // The same with the head of the state alone.
-#[derive(Drop)]
+#[derive(Clone, Copy)]
 pub struct HeadAnswer {
     pub outcome: Outcome,
     pub head: Head,

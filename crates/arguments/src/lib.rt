@@ -1,5 +1,7 @@
 // Document 01, "Commands": the fixed table of argument lengths, looked up by command code. Board, encoder and decoder know from here what
 // is served.
+#![tactic(auto)]
+
 ghost use Rattle.std.specs.Prelude.{◌≡◌, ◌&&◌, ℕ, eqb, leb, get_or};
 ghost use Rattle.rules.specs.Commands.{tabled, served, length_allowed};
 

@@ -1,6 +1,8 @@
 // The bench: plays a board, and the master beside it, from a script of plain lines, and says in words what happened.
 // The script is the file that the first argument names, or standard input; a second argument names a file for the status.
 // The lines are listed by `help` and in docs/BENCH.md.
+#![tactic(auto)]
+
 use crate::run::{LONGEST_LINE, run_next_line};
 use bench_exchange::bench::Bench;
 use bench_memory::memory::{MEMORY, fill_flash};

@@ -7,7 +7,7 @@ use state::State;
 use tally::Tally;
 
 // Which byte is to be damaged, from 1, and how many frames or replies pass before that; byte 0 for none.
-#[derive(Drop)]
+#[derive(Clone, Copy)]
 pub struct Damage {
     pub byte: usize,
     pub after: usize,
@@ -36,7 +36,7 @@ impl Damage {
     }
 }
 
-#[derive(Drop)]
+#[derive(Clone, Copy)]
 pub struct Bench {
     pub profile: Profile,
     pub state: State,

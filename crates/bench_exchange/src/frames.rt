@@ -13,7 +13,7 @@ use state::State;
 use tally::{Tally, counted};
 
 // The bench after a request, what the master made of the reply, and the reply.
-#[derive(Drop)]
+#[derive(Clone, Copy)]
 pub struct Exchange {
     pub bench: Bench,
     pub result: RequestResult,
@@ -21,7 +21,7 @@ pub struct Exchange {
 }
 
 // What the board did with a frame: its answer, and what must not be missed.
-#[derive(Drop)]
+#[derive(Clone, Copy)]
 struct Called {
     by: Replier,
     outcome: Outcome,

@@ -9,7 +9,7 @@ use numbers::board_number;
 use rules::kinds::{Bus, Outcome};
 
 // What came to the master: the first `len` bytes; or a silence, and whether that must not be missed.
-#[derive(Drop)]
+#[derive(Clone, Copy)]
 pub struct Reply {
     pub len: usize,
     pub bytes: [u8; 256],
@@ -57,7 +57,7 @@ pub(crate) fn tell_bytes(text: &[u8], address: u8, bytes: &[u8]) {
 }
 
 // Who replies.
-#[derive(Drop)]
+#[derive(Clone, Copy)]
 pub(crate) enum Replier {
     Bootloader,
     Application,

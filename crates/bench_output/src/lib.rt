@@ -1,4 +1,6 @@
 // What the bench writes: words, numbers and bytes, to standard output.
+#![tactic(auto)]
+
 ghost use Rattle.std.specs.Prelude.{◌≤◌, length};
 
 use libc::STDOUT_FILENO;

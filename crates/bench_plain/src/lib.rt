@@ -1,4 +1,6 @@
 // Lines of one word by which the master makes a request: commands without arguments, the general calls, and `reset-running`.
+#![tactic(auto)]
+
 use bench_exchange::bench::{Bench, FIRST_ADDRESS};
 use bench_exchange::requests::{command, general, request};
 use bench_output::tell;

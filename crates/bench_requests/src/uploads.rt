@@ -12,7 +12,7 @@ use rules::requests::Request;
 use upload_ends::UploadEnd;
 
 // An upload so far, and whether each step was OK.
-#[derive(Drop)]
+#[derive(Clone, Copy)]
 struct Sent {
     bench: Bench,
     fine: bool,

@@ -3,7 +3,7 @@ ghost use Rattle.std.specs.Prelude.{◌≤◌, length};
 
 use bench_output::{as_usize, find, min, say, say_word, tell};
 
-#[derive(Drop)]
+#[derive(Clone, Copy)]
 pub enum Parsed {
     Value(usize),
     // not what the line needs here
@@ -206,7 +206,7 @@ pub(crate) fn are_digits(high: u8, low: u8) -> bool {
 }
 
 // Two characters as a byte.
-#[derive(Drop)]
+#[derive(Clone, Copy)]
 enum Pair {
     Byte(u8),
     Half,

@@ -118,7 +118,7 @@ pub fn file(name: &[u8], out: &mut [u8]) -> Parsed {
 }
 
 // How a line gives bytes: `fill BYTE COUNT`, `file NAME`, or digits.
-#[derive(Drop)]
+#[derive(Clone, Copy)]
 pub enum DataKind {
     Fill,
     File,

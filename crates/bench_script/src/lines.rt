@@ -1,6 +1,6 @@
 // The lines of a script, read one by one.
 
-#[derive(Drop)]
+#[derive(Clone, Copy)]
 pub enum Line {
     // So many bytes, without the line feed.
     Text(usize),
@@ -8,7 +8,7 @@ pub enum Line {
     End,
 }
 
-#[derive(Drop)]
+#[derive(Clone, Copy)]
 enum Read {
     Byte(u8),
     End,

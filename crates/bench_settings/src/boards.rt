@@ -13,7 +13,7 @@ use rules::kinds::Bus;
 use state::State;
 
 // A name in a `board` line.
-#[derive(Drop)]
+#[derive(Clone, Copy)]
 enum Field {
     Longest,
     Page,
@@ -24,7 +24,7 @@ enum Field {
     Unknown,
 }
 
-#[derive(Drop)]
+#[derive(Clone, Copy)]
 enum ByteField {
     Hardware,
     Compatible,
@@ -65,7 +65,7 @@ fn field_named(name: &[u8]) -> Field {
 }
 
 // A profile so far, and whether the line was understood up to here.
-#[derive(Drop)]
+#[derive(Clone, Copy)]
 struct Described {
     profile: Profile,
     fine: bool,

@@ -9,7 +9,7 @@ use rules::requests::{Decoded, Version};
 const NO_STATUS: usize = 6;
 
 // What the master sent: its bus, the command, the length that a read asks for, where to, and whether all of it is said.
-#[derive(Drop)]
+#[derive(Clone, Copy)]
 pub struct Asked {
     pub bus: Bus,
     pub code: usize,
@@ -20,7 +20,7 @@ pub struct Asked {
 
 // What the master got: the status, or NO_STATUS; where the results lie in the reply; the erase count of a finalize, or S of a hardware
 // info.
-#[derive(Drop)]
+#[derive(Clone, Copy)]
 pub struct RequestResult {
     pub status: usize,
     pub start: usize,

@@ -1,8 +1,10 @@
 // The first word of a line: what the line does. docs/BENCH.md lists the lines.
+#![tactic(auto)]
+
 use bench_script::fields::is;
 
 // Lines that set the bench up.
-#[derive(Drop)]
+#[derive(Clone, Copy)]
 pub enum SetupWord {
     Board,
     Flash,
@@ -12,7 +14,7 @@ pub enum SetupWord {
 }
 
 // Lines that show how the bench stands.
-#[derive(Drop)]
+#[derive(Clone, Copy)]
 pub enum ShowWord {
     State,
     Map,
@@ -20,7 +22,7 @@ pub enum ShowWord {
 }
 
 // Lines by which the master makes a request with arguments, sends a frame or reads.
-#[derive(Drop)]
+#[derive(Clone, Copy)]
 pub enum CallWord {
     Write,
     Read,
@@ -30,7 +32,7 @@ pub enum CallWord {
 }
 
 // Lines of one word by which the master makes a request.
-#[derive(Drop)]
+#[derive(Clone, Copy)]
 pub enum PlainWord {
     Version,
     Info,
@@ -44,7 +46,7 @@ pub enum PlainWord {
     ResetRunning,
 }
 
-#[derive(Drop)]
+#[derive(Clone, Copy)]
 pub enum Word {
     Setup(SetupWord),
     Show(ShowWord),

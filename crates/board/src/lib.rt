@@ -1,6 +1,8 @@
 // The board: a received frame goes in with profile, state, lent flash and a lent reply buffer; an answer and the new state come out.
 // It takes any bytes at all. The state goes by value once in and once out; inside its head does, and its buffers are lent. The other call
 // of a board, an I²C read, is `readout::read`.
+#![tactic(auto)]
+
 ghost use Rattle.std.specs.Prelude.{length};
 ghost use Rattle.rules.specs.Frames as frames;
 ghost use Rattle.rules.specs.Board.{received};

@@ -1,5 +1,7 @@
 // The demands of the C boundary: of a list of calls of `childbus_receive` and `childbus_read` after `childbus_fresh`, each with the state
 // bytes and the flash that the last one left. The functions do nothing.
+#![tactic(auto)]
+
 ghost use Rattle.boundary_claims.specs.Met.{BoundaryMeetsDemands};
 ghost use Rattle.boundary_claims.specs.Pages.{BoundaryHandedIn};
 ghost use Rattle.boundary_claims.specs.Resets.{BoundaryResets};

@@ -1,4 +1,6 @@
 // Parts of lent bytes and single bytes of them, for any numbers at all.
+#![tactic(auto)]
+
 ghost use Rattle.std.specs.Prelude.{◌≡◌, drop, get_or};
 ghost use Rattle.byte_parts.specs.Parts.{part, stands_at};
 

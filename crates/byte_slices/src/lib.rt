@@ -1,4 +1,6 @@
 // Lent bytes, whatever they hold: compared, stored, and read and written as numbers of one, two and four bytes.
+#![tactic(auto)]
+
 ghost use Rattle.std.specs.Prelude.{◌≡◌, ◌+◌, ◌≤◌, length};
 ghost use Rattle.rules.specs.Bytes.{same, overlay, low_first};
 ghost use Rattle.rules.specs.Frames.{two_bytes, number_at};

@@ -1,4 +1,6 @@
 // The lines of master calls: E, D, T, V and A.
+#![tactic(auto)]
+
 use case_setup::answers::{
     UNTOUCHED, put_end, put_hex, put_letter, put_number, put_numbers, untouched,
 };

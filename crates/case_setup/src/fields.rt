@@ -9,7 +9,7 @@ use text::read::{Field, is_read, read_hex, read_numbers};
 const MOST: u32 = 4294967295;
 
 // The numbers of a line, its byte strings, and whether the line was good. What a line does not have is 0.
-#[derive(Drop)]
+#[derive(Clone, Copy)]
 pub struct Fields {
     pub numbers: [usize; 9],
     pub first: [u8; 600],

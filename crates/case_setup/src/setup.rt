@@ -5,7 +5,7 @@ use rules::kinds::{Address, Bus};
 use state::{Last, State, Upload};
 use tally::Tally;
 
-#[derive(Drop)]
+#[derive(Clone, Copy)]
 pub struct Setup {
     pub profile: Profile,
     pub state: State,

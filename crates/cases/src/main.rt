@@ -1,6 +1,8 @@
 // Answers the calls of a case file with the library: tests/second/FORMAT.md says what the lines mean and what is written for each call.
 // The file is read from standard input, the answers go to standard output. A bad line changes nothing and is told on standard error by its
 // number. A line has at most 65,535 bytes; a longer one ends the run.
+#![tactic(auto)]
+
 mod boards;
 
 ghost use Rattle.std.specs.Prelude.{◌≤◌, length};
@@ -14,7 +16,7 @@ use text::part::first;
 use text::read::next_field;
 
 // What is to be said of a line.
-#[derive(Drop)]
+#[derive(Clone, Copy)]
 enum Said {
     Good,
     // nothing to say: an empty line, or one that begins with `#`
@@ -30,14 +32,14 @@ enum Said {
 }
 
 // A line that was read: how many bytes it has, and whether the file may have another.
-#[derive(Drop)]
+#[derive(Clone, Copy)]
 struct Read {
     len: usize,
     more: bool,
 }
 
 // The setup after a line, and whether there is more to read.
-#[derive(Drop)]
+#[derive(Clone, Copy)]
 struct Reached {
     setup: Setup,
     more: bool,

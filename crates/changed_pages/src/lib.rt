@@ -1,4 +1,6 @@
 // The pages that an upload changes. The functions do nothing; what a list of calls does with an image is `finished_uploads`'.
+#![tactic(auto)]
+
 ghost use Rattle.changed_pages.specs.Claims.{PagesLaid, PagesCounted};
 
 // Laid one after the other, they are the image laid at O.

@@ -1,6 +1,8 @@
 // The C boundary of what a technician must not miss: silence of a board that is well, lost bytes, a finalize that erased nothing, the end
 // of an upload and pages that changed, as include/childbus.h declares them, over byte slices and numbers. A slice is a pointer and a length
 // to C. No call has a `requires`: any bytes of any length get the answer that specs/ fixes. No byte is changed.
+#![tactic(auto)]
+
 ghost use Rattle.std.specs.Prelude.{◌≡◌, ◌≤◌, length};
 ghost use Rattle.state.specs.View.{largest_page};
 ghost use Rattle.fields.specs.Fields.{part};

@@ -2,6 +2,8 @@
 // byte slices and numbers. A slice is a pointer and a length to C, a `&mut` number the place of a single result. No call has a `requires`:
 // any bytes of any length get the answer that specs/ fixes. Of the state the head is read and written; its two buffers are lent where they
 // stand, and only their bytes that mean something are touched.
+#![tactic(auto)]
+
 ghost use Rattle.std.specs.Prelude.{◌≡◌};
 ghost use Rattle.childbus_board.specs.BoardBytes.{fresh_left, FreshLeft, received_left, ReceivedLeft, read_left, ReadLeft};
 ghost use Rattle.childbus_board.specs.TallyCall.{CountedLeft, counted_left};

@@ -1,6 +1,8 @@
 // The C boundary of a master, its replies: what include/childbus.h declares for them, over byte slices and numbers. A slice is a pointer
 // and a length to C, a `&mut` number the place of a single result. No call has a `requires`: any bytes of any length get the answer that
 // specs/ fixes.
+#![tactic(auto)]
+
 ghost use Rattle.std.specs.Prelude.{◌≡◌};
 ghost use Rattle.rules.specs.Master.{Decoding, Ruled, version_rule};
 ghost use Rattle.childbus_replies.specs.ReplyBytes.{decoded_left, ReadsLeft, reads_left, ReadsAgree};

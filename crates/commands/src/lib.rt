@@ -1,4 +1,6 @@
 // Document 01, "Commands": a well-framed command by its code. Unserved, wrong argument length, then the command's own rule.
+#![tactic(auto)]
+
 ghost use Rattle.std.specs.Prelude.{◌≡◌, length};
 ghost use Rattle.rules.specs.Commands.{executed};
 ghost use Rattle.state.specs.View.{largest_page, view};

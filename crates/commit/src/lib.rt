@@ -1,4 +1,6 @@
 // Document 01, "Commit": a commit that counts. specs/ has what an upload and the flash say together.
+#![tactic(auto)]
+
 ghost use Rattle.std.specs.Prelude.{◌++◌, ◌+◌, ◌≤◌, ◌<◌, length};
 ghost use Rattle.commit.specs.Progress.{CommitCounted};
 

@@ -1,6 +1,8 @@
 // The check sums of document 01, "Frames and check sums": CRC-8, CRC-16, a frame's check sum by the bus, and
 // whether a frame ends in its own.
 // `crc_steps` takes a byte in.
+#![tactic(auto)]
+
 ghost use Rattle.std.specs.Prelude.{◌≡◌, take};
 ghost use Rattle.rules.specs.CheckSums.{crc, crc8, crc16, sum, sum_length, sum_right};
 

@@ -1,5 +1,7 @@
 // The register of each check sum one byte further, by half bytes (W2): only here is it known how a byte is taken in. A caller binds the
 // table once, outside its loop, and lends it.
+#![tactic(auto)]
+
 ghost use Rattle.std.specs.Prelude.{◌≡◌, true};
 ghost use Rattle.rules.specs.CheckSums.{crc8, crc16};
 ghost use Rattle.crc_steps.specs.HalfBytes.{high_half, low_half, table_right, half_step, table_step, ByTable};

@@ -1,2 +1,4 @@
 // What the master reads: a reply taken apart.
+#![tactic(auto)]
+
 pub mod decode;

@@ -1,4 +1,6 @@
 // Demands 1 and 2, stated where a reader meets them. The functions do nothing.
+#![tactic(auto)]
+
 ghost use Rattle.ledger.specs.Calls.{ruled};
 ghost use Rattle.demands.specs.Acceptance.{Demand2, StateRight};
 ghost use Rattle.demands.specs.Untouched.{RefusedUntouched, IgnoredFrames, CallsKeepOutside, Demand1};

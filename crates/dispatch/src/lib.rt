@@ -1,4 +1,6 @@
 // A served command with arguments of an allowed length, by its code. Which are served and allowed is `commands`'.
+#![tactic(auto)]
+
 ghost use Rattle.std.specs.Prelude.{◌≡◌, true, length};
 ghost use Rattle.rules.specs.Commands.{length_allowed, performed};
 ghost use Rattle.state.specs.View.{largest_page, view};

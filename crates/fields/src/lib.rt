@@ -1,4 +1,6 @@
 // What a byte layout is made of, beside the numbers and bytes of `byte_slices`: numbers of 32 bits that stand for a byte.
+#![tactic(auto)]
+
 ghost use Rattle.std.specs.Prelude.{◌≡◌};
 ghost use Rattle.fields.specs.Fields.{clipped};
 

@@ -1,4 +1,6 @@
 // Document 01, "Commit": finalize. Accepted bytes are `upload`.
+#![tactic(auto)]
+
 ghost use Rattle.std.specs.Prelude.{◌≡◌, ◌+◌, length};
 ghost use Rattle.rules.specs.Commit.{finalized};
 ghost use Rattle.state.specs.View.{largest_page};

@@ -1,4 +1,6 @@
 // Finished uploads, stated where a reader meets them. The functions do nothing.
+#![tactic(auto)]
+
 ghost use Rattle.ledger.specs.Calls.{ruled};
 ghost use Rattle.wrongboards.specs.WrongBoards.{counts_unchanged};
 ghost use Rattle.finished_uploads.specs.Uploads.{FinishedUploads};

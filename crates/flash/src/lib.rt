@@ -1,4 +1,6 @@
 // Lent flash: bytes committed. Flash is written only where that changes it, so a page wears only when it changes.
+#![tactic(auto)]
+
 ghost use Rattle.std.specs.Prelude.{◌≡◌, ◌++◌, ◌+◌, ◌≤◌, length, take, drop};
 ghost use Rattle.rules.specs.Bytes.{same};
 ghost use Rattle.flash.specs.Committed.{Committed};

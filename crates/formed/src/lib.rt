@@ -1,4 +1,6 @@
 // Whether a state is one of this board: the test behind number 4.
+#![tactic(auto)]
+
 ghost use Rattle.std.specs.Prelude.{◌≡◌, true, List, ℕ, ◌<◌};
 ghost use Rattle.rules.specs.Profile.{in_range};
 ghost use Rattle.rules.specs.State.{upload_formed, well_formed};

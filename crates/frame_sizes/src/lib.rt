@@ -1,4 +1,6 @@
 // What the two buses differ in: how many bytes stand before the command or the status, and how many in the check sum.
+#![tactic(auto)]
+
 ghost use Rattle.std.specs.Prelude.{◌≡◌};
 ghost use Rattle.rules.specs.CheckSums.{sum_length};
 ghost use Rattle.rules.specs.Frames.{header_length, shortest_request, shortest_reply};

@@ -1,4 +1,6 @@
 // A frame that is neither general call, by length, check sum and address: what it is to a board, by name.
+#![tactic(auto)]
+
 ghost use Rattle.std.specs.Prelude.{◌≡◌};
 ghost use Rattle.rules.specs.Frames.{framing};
 

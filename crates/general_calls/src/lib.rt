@@ -1,4 +1,6 @@
 // The two general calls. Their bytes stand here and nowhere else in the code.
+#![tactic(auto)]
+
 ghost use Rattle.std.specs.Prelude.{◌≡◌, ◌≤◌, length, take};
 ghost use Rattle.rules.specs.Bytes.{same};
 ghost use Rattle.rules.specs.Frames.{is_general};
@@ -8,7 +10,7 @@ ghost use Rattle.general_calls.specs.Forms.{general_frame, general_length};
 use rules::kinds::Bus;
 
 // Which of the two.
-#[derive(Drop)]
+#[derive(Clone, Copy)]
 pub enum General {
     // The first of each pair: default range again.
     ResetAddress,

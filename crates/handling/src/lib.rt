@@ -1,4 +1,6 @@
 // A frame handled by its verdict, on a board that refuses it by none of numbers 2 to 5.
+#![tactic(auto)]
+
 ghost use Rattle.std.specs.Prelude.{◌≡◌, List, ℕ, length};
 ghost use Rattle.rules.specs.Numbers.{Unrefused};
 ghost use Rattle.rules.specs.Frames as frames;

@@ -1,4 +1,6 @@
 // The last reply of a state, handed out from its buffer to an I²C read, where none of numbers 2 to 5 applies. The call is `readout::read`.
+#![tactic(auto)]
+
 ghost use Rattle.std.specs.Prelude.{◌≡◌, List, ℕ, ◌≤◌, length};
 ghost use Rattle.rules.specs.Board.{read_answered};
 ghost use Rattle.state.specs.View.{view};

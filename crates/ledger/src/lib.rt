@@ -1,4 +1,6 @@
 // Demand 3, stated where a reader meets it.
+#![tactic(auto)]
+
 ghost use Rattle.ledger.specs.Calls.{ruled};
 ghost use Rattle.ledger.specs.Claim.{Demand3};
 ghost use Rattle.ledger.specs.Reached.{BoundReached};

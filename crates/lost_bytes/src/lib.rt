@@ -1,4 +1,6 @@
 // How many bytes wait in an upload, and how many of those that waited before a call are lost after it.
+#![tactic(auto)]
+
 ghost use Rattle.std.specs.Prelude.{◌≡◌, cond, ◌+◌, ◌-◌, ◌<◌, ◌^◌, length};
 ghost use Rattle.lost_bytes.specs.Lost.{upload_of, waits_at, lost_byte, lost_from, lost_bytes, waiting_bytes};
 

@@ -1,4 +1,6 @@
 // The number of each answer, and how many bytes it made, as document 01 lists them: once, for the C boundary and for programs.
+#![tactic(auto)]
+
 ghost use Rattle.std.specs.Prelude.{◌≡◌};
 ghost use Rattle.rules.specs.Numbers.{number, made};
 ghost use Rattle.rules.specs.Master.{encoded_number, encoded_length, decoded_as, ruled_as, reset_number, reset_length};

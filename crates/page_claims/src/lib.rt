@@ -1,4 +1,6 @@
 // W8, pages of 64 or 128 bytes, stated where a reader meets it. The functions do nothing.
+#![tactic(auto)]
+
 ghost use Rattle.ledger.specs.Calls.{ruled};
 ghost use Rattle.wrongboards.specs.Variations.{paged_by};
 ghost use Rattle.wrongboards.specs.WrongBoards.{keeps_flash};

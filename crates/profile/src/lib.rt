@@ -1,4 +1,6 @@
 // Document 01, "Profile and sizes": what a board is built as, and the test behind number 2. The other tests are `formed` and `refusal`.
+#![tactic(auto)]
+
 ghost use Rattle.std.specs.Prelude.{◌≡◌, ◌<◌};
 ghost use Rattle.rules.specs.Profile.{frame_in_range, page_in_range, size_in_range, offset_in_range, in_range};
 ghost use Rattle.profile.specs.View.{profile_of};
@@ -6,7 +8,7 @@ ghost use Rattle.profile.specs.View.{profile_of};
 use rules::kinds::Bus;
 use state::State;
 
-#[derive(Drop)]
+#[derive(Clone, Copy)]
 pub struct Profile {
     pub bus: Bus,
     // M, longest frame

@@ -1,5 +1,7 @@
 // The profile in 36 bytes, as it crosses the C boundary: include/childbus.h has the layout as a table, specs/ as definitions.
 // Bytes that hold no profile read as a profile out of range, so that the board's own test answers them.
+#![tactic(auto)]
+
 ghost use Rattle.std.specs.Prelude.{◌≡◌, ◌≤◌, length};
 ghost use Rattle.fields.specs.Fields.{part};
 ghost use Rattle.profile_bytes.specs.BothWays.{BothWays};

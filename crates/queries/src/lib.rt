@@ -1,4 +1,6 @@
 // The commands that only tell what the board is: version, hardware info, serial, revision. Results go straight into the lent buffer.
+#![tactic(auto)]
+
 ghost use Rattle.std.specs.Prelude.{◌≡◌, List, [], ◌∷◌, ℕ, ◌+◌, ◌≤◌, length};
 ghost use Rattle.rules.specs.Responses.{replying, ok};
 ghost use Rattle.rules.specs.Commands.{hardware_info, serial_number};

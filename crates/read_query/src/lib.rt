@@ -1,4 +1,6 @@
 // 0x08 read: what stands in flash. Results go straight into the lent buffer.
+#![tactic(auto)]
+
 ghost use Rattle.std.specs.Prelude.{◌≡◌, List, ℕ, ◌+◌, ◌≤◌, length};
 ghost use Rattle.rules.specs.Frames.{shortest_reply};
 ghost use Rattle.rules.specs.Commands.{shown};

@@ -1,5 +1,7 @@
 // An I²C read: the last reply, which the state keeps. Profile, state, lent flash and a lent reply buffer go in, as for a received frame.
 // It takes any bytes at all.
+#![tactic(auto)]
+
 ghost use Rattle.std.specs.Prelude.{length};
 ghost use Rattle.rules.specs.Board.{read_out};
 ghost use Rattle.state.specs.View.{view};

@@ -1,4 +1,6 @@
 // Whether a board call is refused: the tests behind the numbers 2, 3, 4 and 5, in that order in `refuse`.
+#![tactic(auto)]
+
 ghost use Rattle.std.specs.Prelude.{◌≡◌, List, ℕ};
 ghost use Rattle.rules.specs.Numbers.{flash_short, buffer_short, refusal};
 ghost use Rattle.state.specs.View.{view};
@@ -30,7 +32,7 @@ pub fn buffer_short(p: Profile, len: usize) -> bool
 }
 
 // Whether a board call goes on, or its answer.
-#[derive(Drop)]
+#[derive(Clone, Copy)]
 pub enum Check {
     Passed,
     Refused(Outcome),

@@ -1,4 +1,6 @@
 // A list of calls run from lent bytes on the real board, with what is proved of it.
+#![tactic(auto)]
+
 ghost use Rattle.script.specs.Script.{Left};
 
 use profile::Profile;

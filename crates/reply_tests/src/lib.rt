@@ -1,4 +1,6 @@
 // The tests of the reply decoder: results, length, address.
+#![tactic(auto)]
+
 ghost use Rattle.std.specs.Prelude.{◌≡◌, ◌+◌, ◌<◌, length};
 ghost use Rattle.rules.specs.Master.{fixed_part, results_missing, length_right, from_other};
 

@@ -1,4 +1,6 @@
 // A request in bytes: how many it has, and what they are, written into a lent output that has room for them.
+#![tactic(auto)]
+
 mod write;
 
 ghost use Rattle.std.specs.Prelude.{◌≡◌, ◌≤◌, length};

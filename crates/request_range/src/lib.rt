@@ -1,4 +1,6 @@
 // Number 7: whether a request's arguments are out of range. The argument table says which commands are served.
+#![tactic(auto)]
+
 ghost use Rattle.std.specs.Prelude.{◌≡◌, ◌+◌, ◌^◌, ◌<◌, ◌≤◌};
 ghost use Rattle.rules.specs.Master.{address_over, command_wrong, set_address_wrong, read_wrong, argument_wrong};
 

@@ -1,4 +1,6 @@
 // W4, version 0.0 is a running program, stated where a reader meets it. The functions do nothing.
+#![tactic(auto)]
+
 ghost use Rattle.ledger.specs.Calls.{ruled};
 ghost use Rattle.reset_claims.specs.Running.{WrittenForRunning, ResetsBoards, BootloaderKnown, AnswersAgain};
 ghost use Rattle.reset_claims.specs.OfCode.{CodeResets};

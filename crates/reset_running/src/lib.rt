@@ -1,5 +1,7 @@
 // W4: the reset for a running application, which answers version 0.0. It looks first and writes then, so that any other answer leaves the
 // output untouched.
+#![tactic(auto)]
+
 ghost use Rattle.std.specs.Prelude.{length};
 ghost use Rattle.rules.specs.Master.{reset_number, reset_length, running_reset};
 ghost use Rattle.encoder.specs.Calls.{Encodes};

@@ -1,4 +1,6 @@
 // What a command function hands back: a response and the head of the state, with the results laid straight into the lent buffer.
+#![tactic(auto)]
+
 ghost use Rattle.std.specs.Prelude.{◌≡◌, List, ℕ, ◌+◌, ◌≤◌, length};
 ghost use Rattle.rules.specs.Frames.{two_bytes};
 ghost use Rattle.rules.specs.Responses.{replying, ok};
@@ -10,13 +12,13 @@ use byte_slices::two_bytes;
 use state::Head;
 
 // A status with so many results, or nothing to send.
-#[derive(Drop)]
+#[derive(Clone, Copy)]
 pub enum Response {
     Reply { status: u8, count: usize },
     NoReply,
 }
 
-#[derive(Drop)]
+#[derive(Clone, Copy)]
 pub struct Done {
     pub response: Response,
     pub head: Head,

@@ -1,4 +1,6 @@
 // The two halves fit, stated where a reader meets it. The functions do nothing.
+#![tactic(auto)]
+
 ghost use Rattle.roundtrip.specs.Understood.{RequestsUnderstood};
 ghost use Rattle.roundtrip.specs.ReadBack.{RepliesRead};
 ghost use Rattle.roundtrip.specs.Longest.{LongestMade};

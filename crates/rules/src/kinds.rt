@@ -1,21 +1,21 @@
 // What a board or a master tells apart by name: the bus, the addresses of a board, the verdict on a frame, the answers of the calls.
 
 // Document 01, "bus": I²C or RS485.
-#[derive(Drop)]
+#[derive(Clone, Copy)]
 pub enum Bus {
     I2c,
     Rs485,
 }
 
 // Document 01, "own address or default range".
-#[derive(Drop)]
+#[derive(Clone, Copy)]
 pub enum Address {
     DefaultRange,
     Own(u8),
 }
 
 // Why a frame gets no reply and changes nothing.
-#[derive(Drop)]
+#[derive(Clone, Copy)]
 pub enum Reason {
     // Any frame but the reset while the application runs.
     Running,
@@ -32,7 +32,7 @@ pub enum Reason {
 }
 
 // What a received frame is to a board, before its answer's number.
-#[derive(Drop)]
+#[derive(Clone, Copy)]
 pub enum Verdict {
     // The second general call: reset.
     Reset,
@@ -49,7 +49,7 @@ pub enum Verdict {
 }
 
 // The answers of a board call.
-#[derive(Drop)]
+#[derive(Clone, Copy)]
 pub enum Outcome {
     // A reply of so many bytes stands in the lent buffer.
     Reply(usize),

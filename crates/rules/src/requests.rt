@@ -1,7 +1,7 @@
 // What the master's calls take and answer. Each variant of an answer stands for one of document 01's numbers.
 
 // A request to encode, with just the arguments that it has; a write's data bytes are lent beside it.
-#[derive(Drop)]
+#[derive(Clone, Copy)]
 pub enum Request {
     // A command with no arguments, by its code.
     Plain(usize),
@@ -18,7 +18,7 @@ pub enum Request {
 }
 
 // The answers of the encoder.
-#[derive(Drop)]
+#[derive(Clone, Copy)]
 pub enum Encoded {
     // 0: a request of so many bytes stands in the lent output.
     Made(usize),
@@ -31,7 +31,7 @@ pub enum Encoded {
 }
 
 // The answers of the decoder.
-#[derive(Drop)]
+#[derive(Clone, Copy)]
 pub enum Decoded {
     // 0: a status, and where the results lie in the lent reply.
     Reply {
@@ -56,7 +56,7 @@ pub enum Decoded {
 }
 
 // Which of two reads of one reply the results are a part of.
-#[derive(Drop)]
+#[derive(Clone, Copy)]
 pub enum Which {
     First,
     Second,
@@ -64,7 +64,7 @@ pub enum Which {
 }
 
 // The answers of the version rule.
-#[derive(Drop)]
+#[derive(Clone, Copy)]
 pub enum Version {
     // 0: the version that it counts as.
     Known { major: u8, minor: u8 },
@@ -75,7 +75,7 @@ pub enum Version {
 }
 
 // The answers of the reset for a running application.
-#[derive(Drop)]
+#[derive(Clone, Copy)]
 pub enum RunningReset {
     // 0: a reset of so many bytes stands in the lent output.
     Made(usize),

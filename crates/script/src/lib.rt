@@ -1,4 +1,6 @@
 // A script, calls written in bytes: its records, and what running it leaves (specs/). `replay` runs one.
+#![tactic(auto)]
+
 ghost use Rattle.std.specs.Prelude.{◌≡◌, length, drop, ◌+◌, ◌≤◌};
 ghost use Rattle.script.specs.Script.{head, frame_length};
 

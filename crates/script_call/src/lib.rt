@@ -1,4 +1,6 @@
 // One call of a script on the real board.
+#![tactic(auto)]
+
 ghost use Rattle.refinement.specs.Happened.{Promised};
 ghost use Rattle.script.specs.Script.{input_by};
 

@@ -1,4 +1,6 @@
 // A well-framed command to this board, as a frame that is known to be one. Which frames are is `verdict`'s; the call is `board::receive`.
+#![tactic(auto)]
+
 ghost use Rattle.std.specs.Prelude.{◌≡◌, List, ℕ, ◌≤◌, length};
 ghost use Rattle.rules.specs.Numbers.{Unrefused};
 ghost use Rattle.rules.specs.Frames as frames;

@@ -1,6 +1,8 @@
 // Document 01, "State": the state of a board, the sizes that belong to it, the fresh board, which is built here and nowhere else,
 // its head, which is all of it but the two buffers, and the changes that calls make to a head. What a state means is `view`, in
 // specs/View.antt; what a head means with any two buffers is the view of `state_with`.
+#![tactic(auto)]
+
 ghost use Rattle.std.specs.Prelude.{◌≡◌, List, [], ℕ, length};
 ghost use Rattle.rules.specs.declared.kinds.Bus.{Bus};
 ghost use Rattle.rules.specs.State.{fresh_upload, with_address, with_upload};
@@ -12,7 +14,7 @@ ghost use Rattle.state.specs.Heads.{upload_with, state_with, kept_reply};
 use rules::kinds::{Address, Bus};
 
 // The upload: next address, waiting bytes w (the first `held` of the buffer) and erase count.
-#[derive(Drop)]
+#[derive(Clone, Copy)]
 pub struct Upload {
     pub next: usize,
     pub held: usize,
@@ -21,13 +23,13 @@ pub struct Upload {
 }
 
 // On I²C the last reply: the first `len` bytes of the buffer, 0 meaning none.
-#[derive(Drop)]
+#[derive(Clone, Copy)]
 pub struct Last {
     pub len: usize,
     pub bytes: [u8; State::LARGEST_FRAME],
 }
 
-#[derive(Drop)]
+#[derive(Clone, Copy)]
 pub struct State {
     pub address: Address,
     pub running: bool,
@@ -36,7 +38,7 @@ pub struct State {
 }
 
 // The numbers of an upload, without its waiting bytes: next address, how many bytes wait, erase count.
-#[derive(Drop)]
+#[derive(Clone, Copy)]
 pub struct Counts {
     pub next: usize,
     pub held: usize,
@@ -44,7 +46,7 @@ pub struct Counts {
 }
 
 // All of a state but its two buffers, which a call is lent.
-#[derive(Drop)]
+#[derive(Clone, Copy)]
 pub struct Head {
     pub address: Address,
     pub running: bool,

@@ -1,6 +1,8 @@
 // The state in bytes, as it crosses the C boundary: include/childbus.h has the layout as a table, specs/ as definitions. Its head is read
 // from them; the waiting bytes and the last reply stay where they are. Bytes that hold no state read as a malformed one, so that the
 // board's own test answers them.
+#![tactic(auto)]
+
 ghost use Rattle.std.specs.Prelude.{◌≡◌, ◌≤◌, length};
 ghost use Rattle.state.specs.Heads.{head_of};
 ghost use Rattle.state_bytes.specs.BothWays.{BothWays};

@@ -1,5 +1,7 @@
 // Writes what a call leaves of the state into its bytes: the head, and the last reply; the waiting bytes stand there already. Bytes that
 // mean nothing stay as they were. The layout, and reading it, is `state_bytes`.
+#![tactic(auto)]
+
 ghost use Rattle.std.specs.Prelude.{◌≡◌, List, ℕ, ◌≤◌, length, take, replicate};
 ghost use Rattle.rules.specs.Bytes.{overlay};
 ghost use Rattle.rules.specs.Numbers.{laid};

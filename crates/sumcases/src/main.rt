@@ -1,6 +1,8 @@
 // Both check sums of each byte string on standard input, for comparison with other programs (tests/sums).
 // Input: records of a length, two bytes, high byte first, and so many bytes; at most 400,000 bytes in all.
 // Output: a line for each record, CRC-8 and CRC-16 in hexadecimal. A record that is cut ends the output.
+#![tactic(auto)]
+
 use byte_slices::number_at;
 use libc::{STDIN_FILENO, STDOUT_FILENO};
 

@@ -1,4 +1,6 @@
 // A received frame, counted: the board's call with a lent tally that is changed in place.
+#![tactic(auto)]
+
 ghost use Rattle.std.specs.Prelude.{◌≡◌, length};
 ghost use Rattle.rules.specs.Frames as frames;
 ghost use Rattle.rules.specs.Numbers.{number};

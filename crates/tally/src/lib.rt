@@ -1,4 +1,6 @@
 // The tally of received frames: a counter for each kind of frame that a board drops on RS485, and one for frames answered 0.
+#![tactic(auto)]
+
 ghost use Rattle.std.specs.Prelude.{◌≡◌};
 ghost use Rattle.rules.specs.Numbers.{number};
 ghost use Rattle.tally.specs.Tally.{more, cleared, tallied};
@@ -6,7 +8,7 @@ ghost use Rattle.tally.specs.Tally.{more, cleared, tallied};
 use numbers::board_number;
 use rules::kinds::Outcome;
 
-#[derive(Drop)]
+#[derive(Clone, Copy)]
 pub struct Tally {
     pub short: u16, // answered 15: too short
     pub long: u16, // answered 16: too long

@@ -1,4 +1,6 @@
 // The tally in bytes, as it crosses the C boundary: include/childbus.h has the layout as a table, specs/ as definitions.
+#![tactic(auto)]
+
 ghost use Rattle.std.specs.Prelude.{◌≡◌, ◌+◌, ◌≤◌, length};
 ghost use Rattle.rules.specs.Numbers.{laid};
 ghost use Rattle.tally_bytes.specs.TallyBytes.{tally_size, counter_at, tally_at, tally_bytes, tally_left};

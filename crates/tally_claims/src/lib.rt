@@ -1,4 +1,6 @@
 // W3, the tally of received frames over every list of calls, stated where a reader meets it. The functions do nothing.
+#![tactic(auto)]
+
 ghost use Rattle.tally_claims.specs.Counting.{TallyRight, ruled_tally};
 ghost use Rattle.tally_claims.specs.OfCode.{CodeCounts};
 ghost use Rattle.tally_claims.specs.WrongTallies.{wraps, counts_reads, counts_running, reset_clears};

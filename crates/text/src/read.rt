@@ -7,14 +7,14 @@ ghost use Rattle.text.specs.Read.{space, Found, is_read, Digit, number_of, field
 ghost use Rattle.text.specs.Read.{hex_right, pair_value, hex_bytes, is_dash, BytesRead, HexRead};
 
 // What a whole field says.
-#[derive(Drop)]
+#[derive(Clone, Copy)]
 pub enum Parsed {
     Value(usize),
     Wrong,
 }
 
 // What reading a field gives: its value, 0 for a wrong one, and the place of the next.
-#[derive(Drop)]
+#[derive(Clone, Copy)]
 pub struct Field {
     pub value: usize,
     pub next: usize,

@@ -1,4 +1,6 @@
 // A reply that is read twice, which only I²C allows: the first read that decodes counts.
+#![tactic(auto)]
+
 ghost use Rattle.std.specs.Prelude.{◌≡◌};
 ghost use Rattle.rules.specs.Master.{read_number, result_bytes, which_read};
 

@@ -1,4 +1,6 @@
 // The commands that change the board and not its flash: set address, start.
+#![tactic(auto)]
+
 ghost use Rattle.std.specs.Prelude.{◌≡◌, ◌||◌, List, ℕ, ◌≤◌, eqb, length};
 ghost use Rattle.rules.specs.Commands.{address_taken, set_address, started};
 ghost use Rattle.state.specs.View.{view};

@@ -1,6 +1,8 @@
 // Document 01, "Commit": accepted bytes wait for the end of their page, and a commit lays them over flash.
 // The numbers of the upload go by value once a call; the buffer of the waiting bytes and the flash are lent. A page that a write ends is
 // committed from where its bytes stand, so the buffer takes only bytes that wait when the write is done.
+#![tactic(auto)]
+
 ghost use Rattle.std.specs.Prelude.{◌≡◌, ◌+◌, ◌≤◌, length, drop};
 ghost use Rattle.rules.specs.Commit.{taken_all};
 ghost use Rattle.state.specs.View.{largest_page};
@@ -15,7 +17,7 @@ use profile::Profile;
 use state::Counts;
 
 // The upload after the pages that accepted bytes end, and how many of the bytes that took.
-#[derive(Drop)]
+#[derive(Clone, Copy)]
 struct Paged {
     counts: Counts,
     used: usize,

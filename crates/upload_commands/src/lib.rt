@@ -1,4 +1,6 @@
 // The two commands of an upload: write and finalize.
+#![tactic(auto)]
+
 ghost use Rattle.std.specs.Prelude.{◌≡◌, List, ℕ, ◌≤◌, length};
 ghost use Rattle.rules.specs.Commands.{written, finished};
 ghost use Rattle.state.specs.View.{largest_page, view};

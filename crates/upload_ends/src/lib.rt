@@ -1,4 +1,6 @@
 // How an upload ended, by the lent flash before its first write and at its end, and which pages changed between.
+#![tactic(auto)]
+
 ghost use Rattle.std.specs.Prelude.{◌≡◌, ◌*◌};
 ghost use Rattle.byte_parts.specs.Parts.{part};
 ghost use Rattle.upload_ends.specs.Ends.{begins_with, upload_end, page_changed};
@@ -7,7 +9,7 @@ use byte_parts::{first, from};
 use byte_slices::matches;
 
 // How an upload ended.
-#[derive(Drop)]
+#[derive(Clone, Copy)]
 pub enum UploadEnd {
     // The working flash begins with the image.
     Whole,

@@ -1,4 +1,6 @@
 // Document 01, "Frames and check sums": what a received frame is to a board, by name, before the answer has its number.
+#![tactic(auto)]
+
 ghost use Rattle.std.specs.Prelude.{◌≡◌};
 ghost use Rattle.rules.specs.Frames.{verdict};
 

@@ -1,4 +1,6 @@
 // The version rule.
+#![tactic(auto)]
+
 ghost use Rattle.std.specs.Prelude.{◌≡◌};
 ghost use Rattle.rules.specs.Master.{capped, ruled_as, version_rule};
 

@@ -1,4 +1,6 @@
 // Boards that are right but for one error, and the demand that refuses each. The functions do nothing.
+#![tactic(auto)]
+
 ghost use Rattle.std.specs.Prelude.{false, cond, List, [], ℕ, suc, eqb, ltb, set};
 ghost use Rattle.rules.specs.Commands.{reserved};
 ghost use Rattle.ledger.specs.Claim.{Demand3};
