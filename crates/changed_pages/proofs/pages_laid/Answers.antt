@@ -1,11 +1,7 @@
 -- `changed_pages::pages_laid` meets its contract: by the law of the same name, where the working flash has whole pages.
 use Rattle.laws.proofs.StateLaws.{in_range_facts}
 use Rattle.changed_pages.proofs.Pages.{pages_laid}
-use Rattle.changed_pages.proofs.pages_laid.Statement.{statement}
-use Rattle.changed_pages.proofs.pages_laid.Tie as tie
+use Rattle.changed_pages.proofs.pages_laid.Goals as goal
 
-returns : tie.Need-returns
+pub returns : goal.returns
 returns c = λ p d image range room fits. pages_laid p d image (in_range_facts p range).size_paged room fits
-
-pub pages_laid_spec : {M : Type 1} → statement M
-pages_laid_spec = tie.close (tie.spec returns)
