@@ -1,5 +1,5 @@
 -- `ledger::bound_reached` meets its contract: computed.
-use mathlib.Core.Path.{refl}
+use Rattle.std.proofs.Common.{refl}
 use Rattle.rules.specs.Bytes.{same, overlay}
 use Rattle.rules.specs.Profile.{in_range}
 use Rattle.rules.specs.State.{upload_formed, well_formed}
@@ -12,8 +12,7 @@ use Rattle.rules.specs.Board.{handled, received}
 use Rattle.ledger.specs.Ledger.{commits, joins, joins_all, writes, finalizes, entered}
 use Rattle.ledger.specs.Calls.{trace}
 use Rattle.ledger.specs.Reached.{BoundReached}
-use Rattle.ledger.proofs.bound_reached.Statement.{statement}
-use Rattle.ledger.proofs.bound_reached.Tie as tie
+use Rattle.ledger.proofs.bound_reached.Goals as goal
 
 reached : BoundReached
 unfolding same overlay in_range upload_formed well_formed refusal
@@ -25,8 +24,5 @@ reached = record {
   page_128 = record { counts_are = refl; finals_are = refl; bounds_are = refl };
 }
 
-returns : tie.Need-returns
+pub returns : goal.returns
 returns c = reached
-
-pub bound_reached_spec : {M : Type 1} → statement M
-bound_reached_spec = tie.close (tie.spec returns)
