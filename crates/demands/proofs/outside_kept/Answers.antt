@@ -1,11 +1,7 @@
 -- `demands::outside_kept` meets its contract: a commit writes within the working flash, a read writes nothing.
 use Rattle.laws.proofs.UploadLaws.{outside_refl}
 use Rattle.laws.proofs.BoardLaws.{received_outside, read_out_flash}
-use Rattle.demands.proofs.outside_kept.Statement.{statement}
-use Rattle.demands.proofs.outside_kept.Tie as tie
+use Rattle.demands.proofs.outside_kept.Goals as goal
 
-returns : tie.Need-returns
+pub returns : goal.returns
 returns c = λ p s a f d n. (received_outside p s d a f n, rw (read_out_flash p s a d n) (outside_refl p d))
-
-pub outside_kept_spec : {M : Type 1} → statement M
-outside_kept_spec = tie.close (tie.spec returns)
