@@ -1,11 +1,9 @@
--- What a test answered, where its negation was tried.
-use mathlib.Core.Path.{◌≡◌, sym, ◌∙◌}
-use mathlib.Core.Bool.{Bool, true, false, not}
-use borrow.Author.Tests.{not-true, not-false}
+-- What a test answered.
+use Rattle.std.proofs.Common.{◌≡◌, sym, ◌∙◌, Bool, true, false}
 
--- a call answered the value of a test, and its negation was tried
-pub answered_false : {r t : Bool} → r ≡ t → not r ≡ true → t ≡ false
-answered_false {r} e h = sym e ∙ not-true r h
+-- a call answered the value of a test
+pub answered_false : {r t : Bool} → r ≡ t → r ≡ false → t ≡ false
+answered_false e h = sym e ∙ h
 
-pub answered_true : {r t : Bool} → r ≡ t → not r ≡ false → t ≡ true
-answered_true {r} e h = sym e ∙ not-false r h
+pub answered_true : {r t : Bool} → r ≡ t → r ≡ true → t ≡ true
+answered_true e h = sym e ∙ h

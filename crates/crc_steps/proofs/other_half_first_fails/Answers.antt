@@ -1,12 +1,8 @@
 -- `crc_steps::other_half_first_fails` meets its contract: a table by the rule for the other half, and a register of 1.
-use mathlib.Core.Path.{◌≡◌, refl}
-use mathlib.Core.List.{List, [], ◌∷◌}
-use Prim.Native.Nat.{ℕ}
-use native.Mathlib.Omega.{arith}
+use Rattle.std.proofs.Common.{◌≡◌, refl, List, [], ◌∷◌, ℕ, arith}
 use Rattle.rules.specs.CheckSums.{bit, byte}
 use Rattle.crc_steps.specs.HalfBytes.{entries_right, half_step, table_step}
-use Rattle.crc_steps.proofs.other_half_first_fails.Statement.{statement}
-use Rattle.crc_steps.proofs.other_half_first_fails.Tie as tie
+use Rattle.crc_steps.proofs.other_half_first_fails.Goals as goal
 
 -- four steps from the half that leaves last: nothing falls out
 last8 : List ℕ
@@ -15,12 +11,10 @@ last8 = 0 ∷ 16 ∷ 32 ∷ 48 ∷ 64 ∷ 80 ∷ 96 ∷ 112 ∷ 128 ∷ 144 ∷ 
 last16 : List ℕ
 last16 = 0 ∷ 1 ∷ 2 ∷ 3 ∷ 4 ∷ 5 ∷ 6 ∷ 7 ∷ 8 ∷ 9 ∷ 10 ∷ 11 ∷ 12 ∷ 13 ∷ 14 ∷ 15 ∷ []
 
-returns : tie.Need-returns
+pub returns : goal.returns
 unfolding last8 last16 entries_right half_step table_step bit byte
-returns c = (
+returns c =
+    (
   λ claim. let e : ◌≡◌ {A = ℕ} 1 7 = claim last8 refl 1 0 (omega arith) (omega arith) in absurd (omega (arith, e)),
   λ claim. let e : ◌≡◌ {A = ℕ} 1 0xC0C1 = claim last16 refl 1 0 (omega arith) (omega arith) in absurd (omega (arith, e)),
 )
-
-pub other_half_first_fails_spec : {M : Type 1} → statement M
-other_half_first_fails_spec = tie.close (tie.spec returns)
