@@ -70,5 +70,6 @@ pub fn write_general(bus: Bus, call: General, out: &mut [u8]) -> usize
 {
     let n = general_length(bus);
     let bytes = form(bus, call);
-    bytes::copy(&bytes[..n], out)
+    out[..n].copy_from_slice(&bytes[..n]);
+    n
 }

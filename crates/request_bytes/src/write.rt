@@ -21,7 +21,9 @@ fn append(out: &mut [u8], n: usize, more: &[u8]) -> usize
     requires { n + length more.now ≤ length out.old }
     ensures { Makes (take n out.old ++ more.now) out.old out.new result }
 {
-    n + bytes::copy(more, &mut out[n..])
+    let end = n + more.len();
+    out[n..end].copy_from_slice(more);
+    end
 }
 
 // A command with its arguments, which are lent in two parts.
