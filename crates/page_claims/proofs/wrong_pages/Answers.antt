@@ -1,10 +1,6 @@
 -- `page_claims::wrong_pages` meets its contract: a finalize with bytes 5 to 9 waiting leaves byte 0 changed, byte 5 as it was, or bytes
 -- waiting; a state with a byte waiting before any was accepted is answered; and 70 waiting bytes get number 4 under a page of 128.
-use mathlib.Core.Path.{◌≡◌, refl, ap}
-use mathlib.Core.List.{List, []}
-use Prim.Native.Nat.{ℕ, ◌≤◌}
-use native.Mathlib.Omega.{arith}
-use lib.ListN.{length, get_or}
+use Rattle.std.proofs.Common.{◌≡◌, refl, ap, List, [], ℕ, arith, length, get_or}
 use Rattle.rules.specs.declared.kinds.Bus.TheVariants.{I2c}
 use Rattle.rules.specs.State.{State}
 use Rattle.rules.specs.Frames.{request}
@@ -16,8 +12,7 @@ use Rattle.wrongboards.proofs.Cases.{paged, small, zeros, sent, room}
 use Rattle.page_claims.specs.Pages.{HandedIn}
 use Rattle.page_claims.specs.WrongPages.{lays_at_page_start, keeps_waiting, takes_malformed}
 use Rattle.page_claims.proofs.WrongCases.{state_with}
-use Rattle.page_claims.proofs.wrong_pages.Statement.{statement}
-use Rattle.page_claims.proofs.wrong_pages.Tie as tie
+use Rattle.page_claims.proofs.wrong_pages.Goals as goal
 
 at_page_start : HandedIn lays_at_page_start (λ s. s) → ⊥
 unfolding computing
@@ -54,8 +49,5 @@ judges_by_64 h =
     (h.finalized (paged 128 I2c 128) (state_with 70 70) (zeros 128) 8 (request I2c 8 0x07 []) 128 refl refl refl refl).0 in
     omega arith
 
-returns : tie.Need-returns
+pub returns : goal.returns
 returns c = (at_page_start, not-laid, still_waiting, takes_any, judges_by_64)
-
-pub wrong_pages_spec : {M : Type 1} → statement M
-wrong_pages_spec = tie.close (tie.spec returns)
