@@ -1,11 +1,7 @@
 -- `finished_uploads::wrong_claims` meets its contract: a finalize after the byte 7 and one after the byte 8 count the same page twice; with
 -- O at 64 the byte 7 does not come to place 0; written before a reset it comes nowhere; and an older waiting byte 7 is laid by a finalize
 -- before the first write.
-use mathlib.Core.Path.{◌≡◌, refl, ap}
-use mathlib.Core.List.{List, [], ◌∷◌}
-use Prim.Native.Nat.{ℕ}
-use native.Mathlib.Omega.{arith}
-use lib.ListN.{get_or}
+use Rattle.std.proofs.Common.{◌≡◌, refl, ap, List, [], ◌∷◌, ℕ, arith, get_or}
 use Rattle.rules.specs.declared.kinds.Bus.TheVariants.{I2c}
 use Rattle.rules.specs.State.{State, fresh}
 use Rattle.rules.specs.Profile.{Profile}
@@ -16,8 +12,7 @@ use Rattle.wrongboards.proofs.Computing.{computing}
 use Rattle.wrongboards.proofs.Cases.{zeros, write, finalize}
 use Rattle.finished_uploads.specs.Wrong.{CountsAlways, LaysAtZero, SurvivesReset, BeginsEarlier}
 use Rattle.finished_uploads.proofs.WrongCases.{state_with, at_zero, at_page, around, step_at}
-use Rattle.finished_uploads.proofs.wrong_claims.Statement.{statement}
-use Rattle.finished_uploads.proofs.wrong_claims.Tie as tie
+use Rattle.finished_uploads.proofs.wrong_claims.Goals as goal
 
 -- the steps of the rules' board
 abbrev steps : Profile → State → List ℕ → List Call → List Step
@@ -71,8 +66,5 @@ laid-before h =
     (h at_zero s (zeros 64) cs [] (at 0 ∷ at 1 ∷ []) [] (at 2) refl (refl, (refl, tt)) refl refl) in
     omega arith
 
-returns : tie.Need-returns
+pub returns : goal.returns
 returns c = (counts_twice, not-at-zero, lost_by_reset, laid-before)
-
-pub wrong_claims_spec : {M : Type 1} → statement M
-wrong_claims_spec = tie.close (tie.spec returns)

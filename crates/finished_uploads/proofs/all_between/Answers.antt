@@ -1,15 +1,12 @@
 -- `finished_uploads::all_between` meets its contract: computed.
-use mathlib.Core.Path.{refl}
-use mathlib.Core.List.{List, [], ◌∷◌, ◌++◌}
-use lib.ListN.{take}
+use Rattle.std.proofs.Common.{refl, List, [], ◌∷◌, ◌++◌, take}
 use Rattle.ledger.specs.Calls.{Step, ruled, traced}
 use Rattle.ledger.specs.Reached.{sent}
 use Rattle.wrongboards.proofs.Computing.{computing}
 use Rattle.finished_uploads.specs.Uploads.{fed_all}
 use Rattle.finished_uploads.specs.Between.{board, flash_before, upload_calls, AllBetween}
 use Rattle.finished_uploads.proofs.WrongCases.{step_at}
-use Rattle.finished_uploads.proofs.all_between.Statement.{statement}
-use Rattle.finished_uploads.proofs.all_between.Tie as tie
+use Rattle.finished_uploads.proofs.all_between.Goals as goal
 
 abbrev steps : List Step
 steps = traced ruled board flash_before (upload_calls ++ sent 0x07 [] ∷ [])
@@ -33,8 +30,5 @@ all = record {
   count_is = refl;
 }
 
-returns : tie.Need-returns
+pub returns : goal.returns
 returns c = all
-
-pub all_between_spec : {M : Type 1} → statement M
-all_between_spec = tie.close (tie.spec returns)

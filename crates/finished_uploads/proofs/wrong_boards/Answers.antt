@@ -1,11 +1,6 @@
 -- `finished_uploads::wrong_boards` meets its contract: the byte 7 is written at 0 and lost before the finalize, at each kind of call in
 -- between; from a count of 1 the upload of one page answers 2; and over flash that has the byte 7 already its upload answers 1.
-use mathlib.Core.Path.{◌≡◌, refl, ap}
-use mathlib.Core.Bool.{Bool, true, false}
-use mathlib.Core.List.{List, [], ◌∷◌}
-use Prim.Native.Nat.{ℕ}
-use native.Mathlib.Omega.{arith}
-use lib.ListN.{get_or, replicate}
+use Rattle.std.proofs.Common.{◌≡◌, refl, ap, Bool, true, false, List, [], ◌∷◌, ℕ, arith, get_or, replicate}
 use Rattle.rules.specs.declared.kinds.Bus.TheVariants.{I2c}
 use Rattle.rules.specs.State.{fresh}
 use Rattle.changed_pages.specs.ChangedPages.{changed_below}
@@ -14,12 +9,11 @@ use Rattle.ledger.specs.Calls.{Call, Frame, Read, Board, Step, trace}
 use Rattle.ledger.specs.Claim.{finalize_step, pieces, from_zero, joined}
 use Rattle.wrongboards.specs.WrongBoards.{counts_unchanged}
 use Rattle.wrongboards.proofs.Computing.{computing}
-use Rattle.wrongboards.proofs.Cases.{zeros, sent, finalize}
+use Rattle.wrongboards.proofs.Cases.{zeros, sent}
 use Rattle.finished_uploads.specs.Uploads.{resetting, begins, fed_all, Stored, FinishedUploads}
 use Rattle.finished_uploads.specs.Wrong.{loses_at_set_address, loses_at_flash_read, loses_at_ignored, loses_at_read, counts_on}
 use Rattle.finished_uploads.proofs.WrongCases.{state_with, at_zero, around, step_at}
-use Rattle.finished_uploads.proofs.wrong_boards.Statement.{statement}
-use Rattle.finished_uploads.proofs.wrong_boards.Tie as tie
+use Rattle.finished_uploads.proofs.wrong_boards.Goals as goal
 
 -- the steps of a board on an image written at 0, another call, and a finalize
 module _ (B : Board) (s : B.Kept) (d image : List ℕ) (c : Call) where
@@ -93,8 +87,5 @@ unchanged h =
     let count : ◌≡◌ {A = ℕ} 1 0 = count_of (held.count_is refl) in
     omega arith
 
-returns : tie.Need-returns
+pub returns : goal.returns
 returns c = (set_address_lem, flash_read, ignored-frame, i2c_read, counts_on_lem, unchanged)
-
-pub wrong_boards_spec : {M : Type 1} → statement M
-wrong_boards_spec = tie.close (tie.spec returns)
