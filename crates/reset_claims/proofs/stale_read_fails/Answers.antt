@@ -1,8 +1,5 @@
 -- A board whose last reply says two zeros gets a version request for another board, and then a read.
-use mathlib.Core.Path.{◌≡◌, refl}
-use mathlib.Core.List.{[], ◌∷◌}
-use Prim.Native.Nat.{ℕ}
-use native.Mathlib.Omega.{arith}
+use Rattle.std.proofs.Common.{◌≡◌, refl, [], ◌∷◌, ℕ, arith}
 use Rattle.rules.specs.declared.kinds.Bus.TheVariants.{I2c}
 use Rattle.rules.specs.State.{State, fresh, with_last}
 use Rattle.rules.specs.Frames.{request, reply}
@@ -10,8 +7,7 @@ use Rattle.ledger.specs.Calls.{ruled}
 use Rattle.wrongboards.proofs.Cases.{small, zeros}
 use Rattle.reset_claims.specs.WrongResets.{EveryReadKnown}
 use Rattle.reset_claims.proofs.WrongCases.{computing_reset}
-use Rattle.reset_claims.proofs.stale_read_fails.Statement.{statement}
-use Rattle.reset_claims.proofs.stale_read_fails.Tie as tie
+use Rattle.reset_claims.proofs.stale_read_fails.Goals as goal
 
 stale : EveryReadKnown ruled → ⊥
 unfolding computing_reset
@@ -21,8 +17,5 @@ stale h =
     h (small I2c 64) stored (zeros 64) 20 (request I2c 20 0x00 []) 128 8 128 refl 0 0 [] refl refl refl in
     omega arith
 
-returns : tie.Need-returns
+pub returns : goal.returns
 returns c = stale
-
-pub stale_read_fails_spec : {M : Type 1} → statement M
-stale_read_fails_spec = tie.close (tie.spec returns)

@@ -1,10 +1,6 @@
 -- Each wrong board gets the reset on I²C: a running one stays running, one with an upload keeps it, one with a flash loses it.
-use mathlib.Core.Path.{◌≡◌, refl, sym, ap}
-use mathlib.Core.Bool.{Bool, true, false, false≢true}
-use mathlib.Core.List.{[]}
-use Prim.Native.Nat.{ℕ}
-use native.Mathlib.Omega.{arith}
-use lib.ListN.{length}
+use Rattle.std.proofs.Common.{◌≡◌, refl, sym, ap, Bool, true, false, [], ℕ, arith, length}
+use mathlib.Core.Bool.{false≢true}
 use Rattle.rules.specs.declared.kinds.Bus.TheVariants.{I2c}
 use Rattle.rules.specs.State.{State, fresh, with_running, with_upload}
 use Rattle.ledger.specs.Calls.{Reaction}
@@ -12,8 +8,7 @@ use Rattle.wrongboards.proofs.Cases.{small, zeros}
 use Rattle.reset_claims.specs.Running.{ResetsBoards}
 use Rattle.reset_claims.specs.WrongResets.{ignores_reset, resets_address, erases_flash}
 use Rattle.reset_claims.proofs.WrongCases.{computing_reset, zero_input}
-use Rattle.reset_claims.proofs.wrong_resets.Statement.{statement}
-use Rattle.reset_claims.proofs.wrong_resets.Tie as tie
+use Rattle.reset_claims.proofs.wrong_resets.Goals as goal
 
 still_running : ResetsBoards ignores_reset → ⊥
 unfolding computing_reset
@@ -37,8 +32,5 @@ flash_lost h =
     let bytes : ◌≡◌ {A = ℕ} 0 64 = ap (λ (r : Reaction State). length r.flash) after in
     omega arith
 
-returns : tie.Need-returns
+pub returns : goal.returns
 returns c = (still_running, upload_kept, flash_lost)
-
-pub wrong_resets_spec : {M : Type 1} → statement M
-wrong_resets_spec = tie.close (tie.spec returns)
