@@ -1,9 +1,9 @@
 -- What set address does to a board, and where its OK is read. The frame's verdict is a command, so the answer is the command's own; an
 -- answer with OK comes from no other outcome than the one that takes the address.
 use mathlib.Core.Path.{◌≡◌, refl, sym, ap, subst, ◌∙◌}
-use mathlib.Core.Bool.{Bool, true, false, ◌&&◌, false≢true}
+use mathlib.Core.Bool.{true, false, ◌&&◌}
 use mathlib.Core.List.{List, [], ◌∷◌}
-use Prim.Native.Nat.{ℕ, ◌+◌, ◌≤◌}
+use Prim.Native.Nat.{ℕ, ◌≤◌}
 use native.Mathlib.Omega.{arith}
 use lib.Dec.{eqb}
 use lib.ListN.{length, get_or}
@@ -16,11 +16,11 @@ use Rattle.rules.specs.declared.kinds.Verdict.TheVariants.{Reset, ResetAddress, 
 use Rattle.rules.specs.Profile.{Profile}
 use Rattle.rules.specs.State.{State, with_address}
 use Rattle.rules.specs.CheckSums.{sealed}
-use Rattle.rules.specs.Numbers.{refusal, Unrefused}
+use Rattle.rules.specs.Numbers.{refusal}
 use Rattle.rules.specs.Frames.{destination, reply, command_of, arguments_of, framing, verdict}
-use Rattle.rules.specs.Responses.{Response, Reply, NoReply, Acted, replying, ok, command_not_supported}
+use Rattle.rules.specs.Responses.{NoReply, Acted, replying, ok, command_not_supported}
 use Rattle.rules.specs.Responses.{invalid_arguments, invalid_transfer, invalid_crc}
-use Rattle.rules.specs.Commands.{reserved, set_address, started, executed}
+use Rattle.rules.specs.Commands.{reserved, set_address, executed}
 use Rattle.rules.specs.Board.{Called, finished_call, handled, refused, received}
 use Rattle.laws.proofs.TestLaws.{by_test, &&_true}
 use Rattle.laws.proofs.StateLaws.{refusal_unrefused, unrefused_refusal}

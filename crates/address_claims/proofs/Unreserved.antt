@@ -2,7 +2,7 @@
 use mathlib.Core.Path.{◌≡◌, refl}
 use mathlib.Core.Bool.{true}
 use mathlib.Core.List.{List, [], ◌∷◌}
-use Prim.Native.Nat.{ℕ, ◌-◌}
+use Prim.Native.Nat.{ℕ}
 use lib.Dec.{eqb}
 use lib.ListN.{length, drop, get_or}
 use borrow.Author.Tests.{eqb-true, eqb-false}
@@ -15,7 +15,7 @@ use Rattle.rules.specs.Numbers.{refusal}
 use Rattle.rules.specs.Frames.{destination, reply, command_of, arguments_of, number_at, verdict}
 use Rattle.rules.specs.Responses.{Response, Reply, NoReply, Acted, replying, invalid_transfer, invalid_crc}
 use Rattle.rules.specs.Commands.{accepted, readable, written, finished, shown, executed}
-use Rattle.rules.specs.Board.{replied, finished_call, handled, received}
+use Rattle.rules.specs.Board.{replied, finished_call, handled}
 use Rattle.laws.proofs.TestLaws.{by_test}
 use Rattle.laws.proofs.CommandLaws.{set_address_cases, executed_cases}
 use Rattle.laws.proofs.AddressLaws.{taken_fits}

@@ -1,7 +1,7 @@
 -- Demand 2 of the board of the rules. Along a list the state stays well formed, flash keeps its length (`BoardLaws`), and the past tells
 -- what the state keeps (`Received`); so each well-framed frame gets its command's response (`Answered`).
 use mathlib.Core.Path.{◌≡◌, refl, sym, ap, subst, ◌∙◌}
-use mathlib.Core.Bool.{true, false}
+use mathlib.Core.Bool.{true}
 use mathlib.Core.List.{List, [], ◌∷◌}
 use Prim.Native.Nat.{ℕ, ◌+◌, ◌≤◌}
 use native.Mathlib.Omega.{arith}

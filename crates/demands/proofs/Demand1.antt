@@ -1,8 +1,8 @@
 -- Demand 1 of the board of the rules, over any list: by the laws for one call (`Refused`, `Ignored`), since what is known follows the state
 -- (`AllRight`).
-use mathlib.Core.Path.{◌≡◌, sym, ap, subst}
+use mathlib.Core.Path.{sym, ap, subst}
 use mathlib.Core.List.{List, [], ◌∷◌}
-use Prim.Native.Nat.{ℕ, ◌≤◌}
+use Prim.Native.Nat.{ℕ}
 use Rattle.rules.specs.Profile.{Profile}
 use Rattle.rules.specs.State.{State, Upload, fresh}
 use Rattle.rules.specs.Board.{Called, received, read_out}
@@ -10,7 +10,6 @@ use Rattle.laws.proofs.BoardLaws.{read_out_state, read_out_flash}
 use Rattle.ledger.specs.Ledger.{Ledger, opened}
 use Rattle.ledger.specs.Calls.{Call, Frame, Read, reaction, ruled, fed, stepped, trace}
 use Rattle.demands.specs.Past.{Known, known_of}
-use Rattle.demands.specs.Acceptance.{Unchanged}
 use Rattle.demands.specs.Untouched.{Untouched, AllUntouched, Demand1}
 use Rattle.demands.proofs.Refused.{refused_untouched}
 use Rattle.demands.proofs.Ignored.{ignored_frames}

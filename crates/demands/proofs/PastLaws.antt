@@ -8,7 +8,6 @@ use lib.Dec.{eqb}
 use lib.ListN.{length, get_or}
 use borrow.Author.Tests.{ne_eqb}
 use Rattle.rules.specs.declared.kinds.Bus.{Bus}
-use Rattle.rules.specs.declared.kinds.Bus.TheVariants.{I2c, Rs485}
 use Rattle.rules.specs.declared.kinds.Address.TheVariants.{Own}
 use Rattle.rules.specs.Profile.{Profile}
 use Rattle.rules.specs.State.{State}

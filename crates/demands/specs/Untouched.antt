@@ -1,5 +1,5 @@
 -- Demand 1: what a refused call, a foreign frame and a damaged frame leave as it was. Of the rules, in any state; and over any board.
-use Rattle.std.specs.Prelude.{◌≡◌, ◌⊎◌, Bool, true, false, not, ◌&&◌, List, [], ◌∷◌, ℕ, ◌≤◌, eqb, length}
+use Rattle.std.specs.Prelude.{◌≡◌, ◌⊎◌, Bool, true, not, ◌&&◌, List, [], ◌∷◌, ℕ, ◌≤◌, eqb}
 use Rattle.rules.specs.declared.kinds.Bus.{Bus}
 use Rattle.rules.specs.declared.kinds.Bus.TheVariants.{I2c, Rs485}
 use Rattle.rules.specs.declared.kinds.Address.{Address}
@@ -9,7 +9,7 @@ use Rattle.rules.specs.State.{State}
 use Rattle.rules.specs.CheckSums.{sum_right}
 use Rattle.rules.specs.Commit.{OutsideKept}
 use Rattle.rules.specs.Frames.{destination, addressed, reset_frame}
-use Rattle.rules.specs.Board.{Called, refused, received, read_out}
+use Rattle.rules.specs.Board.{refused, received, read_out}
 use Rattle.ledger.specs.Calls.{Call, Frame, Read, Board, Step, traced}
 use Rattle.demands.specs.Past.{Known, initially, after}
 use Rattle.demands.specs.Acceptance.{Unchanged}

@@ -2,7 +2,7 @@
 -- those of a ledger opened on the flash before it (`Traces`); that ledger has accepted the image over this flash (`Gathered`), so after the
 -- finalize the image is laid over it, and the count is that of the image given at once, which is the number of changed pages.
 use mathlib.Core.Path.{◌≡◌, refl, sym, ap, subst, ◌∙◌}
-use mathlib.Core.Bool.{true, false, false≢true}
+use mathlib.Core.Bool.{true, false≢true}
 use mathlib.Core.List.{List, [], ◌∷◌, ◌++◌, append-nil}
 use Prim.Native.Nat.{ℕ, ◌+◌, ◌≤◌}
 use native.Mathlib.Omega.{arith}

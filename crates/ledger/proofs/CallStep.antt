@@ -1,18 +1,17 @@
 -- One board call: if state and flash are the ledger's before it, they are after it. By the numbers 2 to 5, then by the verdict on the
 -- frame, in the order in which the rules ask.
-use mathlib.Core.Path.{◌≡◌, refl, sym, ◌∙◌}
-use mathlib.Core.Bool.{Bool, true, false, cond, not, false≢true}
+use mathlib.Core.Path.{◌≡◌, refl, ◌∙◌}
+use mathlib.Core.Bool.{false}
 use mathlib.Core.List.{List, []}
-use Prim.Native.Nat.{ℕ, ◌≤◌}
-use native.Mathlib.Omega.{arith}
+use Prim.Native.Nat.{ℕ}
 use lib.Dec.{eqb}
 use lib.ListN.{length}
 use borrow.Author.Tests.{eqb-true}
 use Rattle.rules.specs.declared.kinds.Address.TheVariants.{DefaultRange}
 use Rattle.rules.specs.declared.kinds.Verdict.{Verdict}
-use Rattle.rules.specs.Profile.{Profile, in_range}
-use Rattle.rules.specs.State.{State, well_formed}
-use Rattle.rules.specs.Numbers.{refusal, flash_short, buffer_short, Unrefused}
+use Rattle.rules.specs.Profile.{Profile}
+use Rattle.rules.specs.State.{State}
+use Rattle.rules.specs.Numbers.{refusal, Unrefused}
 use Rattle.rules.specs.Frames.{destination, framing, verdict}
 use Rattle.rules.specs.Responses.{invalid_transfer, invalid_crc}
 use Rattle.rules.specs.Board.{address_reset, refused, handled, received, read_out, read_answered}

@@ -2,7 +2,7 @@
 use Rattle.std.specs.Prelude.{◌≡◌, ◌⊎◌, Bool, true, false, cond, ◌&&◌, List, [], ◌∷◌, ◌++◌, ℕ, ◌+◌, ◌/◌, ◌<◌, ◌≤◌, eqb, length, get_or}
 use Rattle.rules.specs.Profile.{Profile}
 use Rattle.rules.specs.Commit.{OutsideKept}
-use Rattle.ledger.specs.Ledger.{Ledger, is_write, is_finalize, write_address, write_data, count_bytes, high_low}
+use Rattle.ledger.specs.Ledger.{is_write, is_finalize, write_address, write_data, count_bytes, high_low}
 use Rattle.ledger.specs.Calls.{Call, Frame, Read, Board, Step, traced}
 
 -- the step is an answered finalize

@@ -1,13 +1,11 @@
 -- An upload that goes on under another page: what stands after the first part stands whatever the page, and each part leads further.
 use mathlib.Core.Path.{◌≡◌}
-use mathlib.Core.Bool.{true}
 use mathlib.Core.List.{List, [], ◌++◌}
 use Prim.Native.Nat.{ℕ, ◌+◌, ◌≤◌}
 use native.Mathlib.Omega.{arith}
 use lib.ListN.{length, length-append}
 use Rattle.rules.specs.Bytes.{overlay}
-use Rattle.rules.specs.Profile.{Profile, in_range}
-use Rattle.rules.specs.State.{upload_formed}
+use Rattle.rules.specs.Profile.{Profile}
 use Rattle.rules.specs.Commit.{Progress, taken_all, finalized}
 use Rattle.laws.proofs.ImageLaws.{Stands, begins, begins-stands, begins_formed, lent, taken_all-stands, finalized-stands}
 use Rattle.laws.proofs.StateLaws.{ProfileFacts, UploadFacts, in_range_facts, upload_formed_facts}

@@ -1,18 +1,16 @@
 -- A state handed in: refused by number 4 where it is malformed; else a finalize is executed, and its commit lays the waiting bytes.
-use mathlib.Core.Path.{◌≡◌, refl, sym, ap, ◌∙◌}
+use mathlib.Core.Path.{◌≡◌, refl, sym, ap}
 use mathlib.Core.Bool.{true, false}
 use mathlib.Core.List.{List, []}
 use Prim.Native.Nat.{ℕ, ◌+◌, ◌≤◌}
-use native.Mathlib.Omega.{arith}
 use lib.Dec.{eqb}
 use lib.ListN.{length}
-use borrow.Author.Tests.{eqb-true, le-ltb, eq-eqb}
-use Rattle.rules.specs.Bytes.{overlay}
+use borrow.Author.Tests.{eqb-true, le-ltb}
 use Rattle.rules.specs.Profile.{Profile, in_range}
-use Rattle.rules.specs.State.{State, Upload, well_formed, with_upload}
+use Rattle.rules.specs.State.{State, well_formed, with_upload}
 use Rattle.rules.specs.Numbers.{refusal}
 use Rattle.rules.specs.Frames.{destination, command_of, arguments_of, two_bytes, reply}
-use Rattle.rules.specs.Commit.{Progress, committed, finalized}
+use Rattle.rules.specs.Commit.{Progress, finalized}
 use Rattle.rules.specs.Responses.{ok}
 use Rattle.rules.specs.Commands.{finished}
 use Rattle.rules.specs.Board.{finished_call, refused, received, read_out}

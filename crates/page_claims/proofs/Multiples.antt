@@ -1,12 +1,8 @@
 -- A multiple of a page takes its states: the remainder by the page is at most the one by its multiple.
-use mathlib.Core.Path.{◌≡◌, refl, sym}
-use mathlib.Core.Bool.{true}
-use Prim.Native.Nat.{ℕ, ◌%◌, ◌<◌, ◌≤◌}
+use mathlib.Core.Path.{◌≡◌}
+use Prim.Native.Nat.{ℕ, ◌%◌, ◌≤◌}
 use native.Mathlib.Omega.{arith}
 use native.Mathlib.Nat.{mod-le, mod-mod_of_dvd, dvd_of_mod-eq-zero}
-use lib.ListN.{length}
-use Rattle.rules.specs.Profile.{Profile}
-use Rattle.rules.specs.State.{State}
 use Rattle.laws.proofs.StateLaws.{well_formed_facts, facts_well_formed}
 use Rattle.wrongboards.specs.Variations.{with_page}
 use Rattle.page_claims.specs.Pages.{MultipleTakes}

@@ -1,17 +1,16 @@
 -- The code does what the rules say of its states' views, and gives back the very state where it refuses.
-use mathlib.Core.Path.{◌≡◌, refl, sym, ap, subst, ◌∙◌}
+use mathlib.Core.Path.{◌≡◌, sym, ap, subst, ◌∙◌}
 use mathlib.Core.Bool.{true, false}
 use mathlib.Core.List.{List, []}
 use Prim.Native.Nat.{ℕ, ◌+◌, ◌≤◌}
 use native.Mathlib.Omega.{arith}
 use lib.ListN.{length}
 use Rattle.rules.specs.Profile.{in_range}
-use Rattle.rules.specs.State as rules
 use Rattle.rules.specs.State.{well_formed}
 use Rattle.rules.specs.Numbers.{number, refusal}
 use Rattle.rules.specs.Frames.{command_of, arguments_of}
 use Rattle.rules.specs.Board.{Called, refused, received}
-use Rattle.ledger.specs.Calls.{Call, Frame, Read, Reaction, calls}
+use Rattle.ledger.specs.Calls.{Read}
 use Rattle.demands.specs.Past.{past_of, well_framed}
 use Rattle.answer.specs.Answered.{CallEffect, call_effect, expected_effect}
 use Rattle.state.specs.declared.State.{State}

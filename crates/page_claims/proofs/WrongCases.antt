@@ -1,10 +1,7 @@
 -- The states and the call that wrong claims and wrong boards are tried on.
-use mathlib.Core.List.{[]}
 use Prim.Native.Nat.{ℕ}
 use lib.ListN.{replicate}
-use Rattle.rules.specs.declared.kinds.Bus.TheVariants.{I2c}
 use Rattle.rules.specs.State.{State, fresh, with_upload}
-use Rattle.rules.specs.Frames.{request}
 
 -- next, and so many waiting bytes 7
 abbrev pub state_with : ℕ → ℕ → State

@@ -1,9 +1,9 @@
 -- Boards to try against the claims of W8: right but for one named error.
-use Rattle.std.specs.Prelude.{cond, List, [], ℕ, ◌+◌, ◌-◌, length}
+use Rattle.std.specs.Prelude.{List, ℕ, ◌+◌, ◌-◌, length}
 use Rattle.rules.specs.Bytes.{overlay}
 use Rattle.rules.specs.State.{State, Upload}
 use Rattle.rules.specs.Frames.{verdict}
-use Rattle.rules.specs.Commit.{Progress, page_start, committed}
+use Rattle.rules.specs.Commit.{page_start, committed}
 use Rattle.rules.specs.Board.{handled}
 use Rattle.ledger.specs.Calls.{Call, Frame, Read, Reaction, Board, reaction, calls}
 use Rattle.rules.specs.Profile.{Profile}

@@ -9,7 +9,7 @@ use Rattle.demands.specs.Acceptance.{AllRight}
 use Rattle.demands.specs.Untouched.{foreign, damaged}
 use Rattle.address_claims.specs.Addresses.{unreserved}
 use Rattle.state.specs.declared.State.{State}
-use Rattle.state.specs.View.{upload_of, view, Fresh}
+use Rattle.state.specs.View.{upload_of, Fresh}
 use Rattle.profile.specs.declared.Profile.{Profile}
 use Rattle.profile.specs.View.{profile_of}
 use Rattle.refinement.specs.Happened.{CallInput, Receive, Read, Happened, Ran, calls_of, steps_of}

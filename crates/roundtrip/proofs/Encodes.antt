@@ -1,9 +1,9 @@
 -- The encoder makes these requests, by `Longest`: writes of allowed lengths, commands without arguments, and reads of allowed lengths, to
 -- an address that the board has.
-use mathlib.Core.Path.{◌≡◌, refl}
+use mathlib.Core.Path.{◌≡◌}
 use mathlib.Core.Bool.{true, false, not, ◌&&◌}
 use mathlib.Core.List.{List, [], ◌∷◌, ◌++◌}
-use Prim.Native.Nat.{ℕ, ◌+◌, ◌≤◌}
+use Prim.Native.Nat.{ℕ, ◌≤◌}
 use native.Mathlib.Omega.{arith}
 use lib.Dec.{eqb, ltb}
 use lib.ListN.{length}
@@ -11,10 +11,9 @@ use borrow.Author.Tests.{ltb-true, le-ltb, le-leb}
 use Rattle.rules.specs.declared.kinds.Bus.{Bus}
 use Rattle.rules.specs.declared.kinds.Bus.TheVariants.{I2c, Rs485}
 use Rattle.rules.specs.declared.kinds.Address.{Address}
-use Rattle.rules.specs.declared.requests.Request.{Request}
 use Rattle.rules.specs.declared.requests.Request.TheVariants.{Plain, Write, Read}
 use Rattle.rules.specs.Profile.{frame_in_range}
-use Rattle.rules.specs.Frames.{shortest_request, two_bytes, answers_to, addressed}
+use Rattle.rules.specs.Frames.{two_bytes, answers_to, addressed}
 use Rattle.rules.specs.Commands.{served, length_allowed}
 use Rattle.rules.specs.Numbers.{Unrefused}
 use Rattle.rules.specs.Master.{address_over, request_bytes}

@@ -3,23 +3,22 @@
 use mathlib.Core.Path.{◌≡◌, refl, sym, ap, subst, ◌∙◌}
 use mathlib.Core.Bool.{true, false, false≢true}
 use mathlib.Core.List.{List, [], ◌∷◌, ◌++◌, append-nil}
-use Prim.Native.Nat.{ℕ, ◌≤◌, ◌<◌}
+use Prim.Native.Nat.{ℕ, ◌≤◌}
 use native.Mathlib.Omega.{arith}
-use native.Mathlib.Nat.{mod-eq_of_lt}
 use lib.Dec.{eqb}
 use lib.ListN.{length, drop, get_or}
 use lib.Seq.{get_or-drop}
-use borrow.Author.Tests.{eqb-true, eqb-false, eq-eqb, ne_eqb, lt-ltb, ltb-false}
+use borrow.Author.Tests.{eqb-true, eqb-false, eq-eqb, ne_eqb}
 use Rattle.rules.specs.declared.kinds.Bus.{Bus}
 use Rattle.rules.specs.declared.kinds.Bus.TheVariants.{I2c, Rs485}
 use Rattle.rules.specs.declared.kinds.Address.TheVariants.{Own}
 use Rattle.rules.specs.Profile.{Profile}
 use Rattle.rules.specs.State.{State}
-use Rattle.rules.specs.Numbers.{refusal, Unrefused}
+use Rattle.rules.specs.Numbers.{Unrefused}
 use Rattle.rules.specs.Frames.{shortest_reply, reply, addressed}
 use Rattle.rules.specs.Responses.{Response, Reply, NoReply, Acted}
 use Rattle.rules.specs.Commands.{address_taken, reserved, set_address, performed, tabled, served, length_allowed}
-use Rattle.rules.specs.Board.{Called, with_reply, read_answered, read_out}
+use Rattle.rules.specs.Board.{Called, with_reply}
 use Rattle.rules.specs.Master.{Instruction, Commands, AddressReset, BoardReset}
 use Rattle.rules.specs.Master.{results_missing, decoded_read, results_in, result_bytes, which_read, address_over}
 use Rattle.laws.proofs.TestLaws.{by_test}

@@ -1,14 +1,12 @@
 -- The upload is seen: the writes leave the board as if the image had come in one write (`Written`), so the finalize leaves it standing in
 -- flash (`finished_flash`) and answers the count of the state that it leaves, and what is read back is the image (`Shown`).
 use mathlib.Core.Path.{◌≡◌, refl, ap, ◌∙◌}
-use mathlib.Core.Logic.{◌⊎◌, inl, inr}
 use mathlib.Core.List.{List, []}
-use Prim.Native.Nat.{ℕ, ◌+◌, ◌≤◌, ◌<◌}
+use Prim.Native.Nat.{ℕ, ◌≤◌}
 use native.Mathlib.Omega.{arith}
 use native.Mathlib.Nat.{div-add-mod'}
-use lib.ListN.{length, get_or}
+use lib.ListN.{length}
 use borrow.Author.Tests.{ne_eqb}
-use Rattle.rules.specs.Bytes.{overlay}
 use Rattle.rules.specs.State.{Upload}
 use Rattle.rules.specs.Commit.{Progress, taken_all, finalized}
 use Rattle.rules.specs.Frames.{two_bytes}

@@ -1,7 +1,6 @@
 -- Lists of answers that are the same have the same first number and the same first reply.
 use mathlib.Core.Path.{◌≡◌, ap}
 use mathlib.Core.List.{List, [], ◌∷◌}
-use Prim.Native.Nat.{ℕ}
 use Rattle.demands.specs.Replies.{CallAnswer}
 
 abbrev pub first : List CallAnswer → CallAnswer

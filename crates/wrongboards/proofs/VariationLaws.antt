@@ -17,7 +17,7 @@ use Rattle.rules.specs.Responses.{Acted}
 use Rattle.rules.specs.Commands.{tabled, length_allowed, written, finished, performed, executed}
 use Rattle.rules.specs.Board.{Called, finished_call, handled, received, refused}
 use Rattle.ledger.specs.Calls.{Call, Frame, Read, reaction, calls}
-use Rattle.wrongboards.specs.Variations.{Handling, handling_by, executing, taken_all_by, written_by, finished_by, committing, VariedRight}
+use Rattle.wrongboards.specs.Variations.{Handling, handling_by, executing, taken_all_by, written_by, committing, VariedRight}
 
 handling_by-handled : (p : Profile) (s : State) (d : List ℕ) (c : Call) → handling_by handled p s d c ≡ calls p s d c
 unfolding received

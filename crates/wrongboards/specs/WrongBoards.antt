@@ -1,6 +1,6 @@
 -- Boards that are right but for one error, each with the sentence of document 01 that names it.
 -- Which demand refuses each: src/lib.rt. On which calls: proofs/.
-use Rattle.std.specs.Prelude.{Bool, true, false, cond, not, ◌&&◌, ◌||◌, List, [], ◌∷◌, ◌++◌, ℕ, suc, ◌+◌, ◌-◌, ◌%◌, eqb, ltb, length, take, set, get_or, replicate}
+use Rattle.std.specs.Prelude.{Bool, true, cond, not, ◌&&◌, ◌||◌, List, [], ◌∷◌, ◌++◌, ℕ, suc, ◌+◌, ◌-◌, ◌%◌, eqb, ltb, length, take, set, get_or, replicate}
 use Rattle.rules.specs.declared.kinds.Bus.{Bus}
 use Rattle.rules.specs.declared.kinds.Bus.TheVariants.{Rs485}
 use Rattle.rules.specs.declared.kinds.Address.TheVariants.{Own}
@@ -17,7 +17,7 @@ use Rattle.rules.specs.Responses.{Reply, NoReply, Acted, ok, invalid_arguments, 
 use Rattle.rules.specs.Commands.{address_taken, reserved, type_matches, started, executed}
 use Rattle.rules.specs.Board.{finished_call, refused, handled}
 use Rattle.ledger.specs.Calls.{Call, Frame, Read, Reaction, Board, calls}
-use Rattle.wrongboards.specs.Variations.{Handling, Rule, Commit, handling_by, board_by, ruled_by, committed_by, asks}
+use Rattle.wrongboards.specs.Variations.{Handling, handling_by, board_by, ruled_by, committed_by, asks}
 
 -- Document 01, "Programs to try"
 
