@@ -8,8 +8,8 @@ pub returns-in_default-decode : goal.returns-in_default-decode
 unfolding result_bytes
 returns-in_default-decode c =
     rw (
-      decodes_refused c.decode.ensures c.in_default.in_default-own.keys2,
-      decodes_refused c.decode-in_default.ensures c.in_default-decode.in_default-decode-own.keys2,
+      decodes_refused c.decode.ensures c.in_default.not-Reply,
+      decodes_refused c.decode-in_default.ensures c.in_default-decode.not-Reply,
     )
 
 pub overflow_add-result : goal.overflow_add-result
@@ -20,7 +20,7 @@ unfolding result_bytes
 returns-in_default c =
     let known = c.in-Reply-decode.is in
     rw (
-      decodes_refused c.decode.ensures c.in_default.in_default-own.keys2,
+      decodes_refused c.decode.ensures c.in_default.not-Reply,
       ap (λ (d : Decoding). d.number) (decodes_reply c.decode-in_default.ensures known),
     )
     (part-results c.decode-in_default.ensures known)
