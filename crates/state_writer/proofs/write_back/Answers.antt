@@ -1,0 +1,13 @@
+-- `state_writer::write_back` meets its contract, by those of `keep_reply` and `head_to`.
+use Rattle.std.proofs.Common.{◌≡◌, length, rules}
+use Rattle.state.specs.View.{largest_frame}
+use Rattle.state_writer.proofs.Laws.{written_back}
+use Rattle.state_writer.proofs.write_back.Goals as goal
+
+pub returns : goal.returns
+returns c =
+    λ w l.
+    let kept = c.keep_reply in
+    let long : length kept.new.1.1.1.0 ≡ largest_frame = search rules in
+    written_back c.args.h c.args.b.now _ kept.new.1.1.1.0 w l _ long kept.ensures
+    (c.head_to.ensures w l)
