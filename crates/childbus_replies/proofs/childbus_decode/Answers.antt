@@ -14,7 +14,7 @@ returns-in_default c =
     c.if-bus-gt1.false
     c.bus_of.ensures
     c.decode-answer.ensures
-    c.in_default.in_default-own.keys2
+    c.in_default.not-Reply
     c.decoded_number.ensures
 
 pub returns : goal.returns

@@ -8,15 +8,15 @@ pub returns-in_default-decode : goal.returns-in_default-decode
 unfolding which_read chosen_read
 returns-in_default-decode c =
     rw (
-      decodes_refused c.decode.ensures c.in_default.in_default-own.keys2,
-      decodes_refused c.decode-in_default.ensures c.in_default-decode.in_default-decode-own.keys2,
+      decodes_refused c.decode.ensures c.in_default.not-Reply,
+      decodes_refused c.decode-in_default.ensures c.in_default-decode.not-Reply,
     )
 
 pub returns-in_default : goal.returns-in_default
 unfolding which_read chosen_read
 returns-in_default c =
     rw (
-      decodes_refused c.decode.ensures c.in_default.in_default-own.keys2,
+      decodes_refused c.decode.ensures c.in_default.not-Reply,
       decodes_reply c.decode-in_default.ensures c.in-Reply-decode.is,
     )
 

@@ -6,7 +6,7 @@ use Rattle.childbus_replies.proofs.childbus_version.Goals as goal
 
 pub returns-in_default : goal.returns-in_default
 returns-in_default c =
-    version_unnamed c.version-answer.result c.in_default.in_default-own.keys2 c.version_number.ensures
+    version_unnamed c.version-answer.result c.in_default.not-Known c.version_number.ensures
     ∙ version_left c.args.major c.args.minor c.clip.ensures c.clip-2.ensures c.version-answer.ensures
 
 pub returns : goal.returns

@@ -7,7 +7,5 @@ use Rattle.state_writer.proofs.write_back.Goals as goal
 pub returns : goal.returns
 returns c =
     λ w l.
-    let kept = c.keep_reply in
-    let long : length kept.new.1.1.1.0 ≡ largest_frame = search rules in
-    written_back c.args.h c.args.b.now _ kept.new.1.1.1.0 w l _ long kept.ensures
-    (c.head_to.ensures w l)
+    let long : length c.keep_reply.new.last ≡ largest_frame = search rules in
+    written_back c.args.h c.args.b.now _ c.keep_reply.new.last w l _ long c.keep_reply.ensures (c.head_to.ensures w l)
