@@ -5,14 +5,11 @@ use Rattle.state.specs.View.{view}
 use Rattle.state_bytes.specs.StateBytes.{state_at}
 use Rattle.childbus_alarms.specs.Silence.{silence_number}
 use Rattle.childbus_alarms.proofs.ToldLaws.{received_told}
-use Rattle.childbus_alarms.proofs.silence_told.Statement.{statement}
-use Rattle.childbus_alarms.proofs.silence_told.Tie as tie
+use Rattle.childbus_alarms.proofs.silence_told.Goals as goal
 
-returns : tie.Need-returns
+pub returns : goal.returns
 unfolding silence_number
-returns c = record {
+returns c =
+    record {
   told = λ p s a f d n. received_told (profile_of (profile_at p)) (view (state_at s)) a f d n;
 }
-
-pub silence_told_spec : {M : Type 1} → statement M
-silence_told_spec = tie.close (tie.spec returns)
