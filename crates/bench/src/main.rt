@@ -3,6 +3,8 @@
 // The lines are listed by `help` and in docs/BENCH.md.
 #![tactic(auto)]
 
+ghost use Rattle.std.specs.Prelude.{◌≤◌, IfSome, length};
+
 use crate::run::{LONGEST_LINE, run_next_line};
 use bench_exchange::bench::Bench;
 use bench_memory::memory::{MEMORY, fill_flash};
@@ -13,6 +15,7 @@ use bench_settings::shown::{status, tell_end};
 use std::env::{Env, FillError};
 use std::fs::{File, Files};
 use std::io::{ErrorKind, IsTerminal, Stdin, Write};
+use std::process::ExitCode;
 use std::{fs, io};
 
 mod run;
@@ -39,7 +42,7 @@ fn run_script(
 ) -> usize {
     let mut d = new_bench(output, input);
     let mut turns = u64::MAX;
-    while 0 < turns && !d.ended {
+    while 0 < turns && !d.ended && output.is_fine() {
         d = run_next_line(output, files, d, input, line, memory);
         turns -= 1;
     }
@@ -71,7 +74,9 @@ fn start(
 
 // The length of the argument at a place, which is put at the start of `path`, if there is one. One that is too long counts as empty: no
 // file has either name.
-fn argument(env: &impl Env, at: usize, path: &mut [u8]) -> Option<usize> {
+fn argument(env: &impl Env, at: usize, path: &mut [u8]) -> Option<usize>
+    ensures { IfSome result (λ n. n ≤ length path.new) }
+{
     match env.arg(at, path) {
         Ok(n) => Some(n),
         Err(FillError::TooLong) => Some(0),
@@ -128,9 +133,16 @@ fn start_named(
     start_file(output, rt, &path[0..n])
 }
 
-fn main(rt: HostRuntime) -> io::Result<()> {
+// The status of a program that a signal ends because nobody reads what it writes, as a shell tells it.
+const NOT_READ: u8 = 141;
+
+fn main(rt: HostRuntime) -> io::Result<ExitCode> {
     let mut output = Output::new(rt.stdout());
     let status = start_named(&mut output, &rt, rt.stdin());
     write_status(&mut output, &rt, 2, status);
-    output.finish()
+    match output.finish() {
+        Ok(()) => Ok(ExitCode::SUCCESS),
+        Err(e) if e.kind() == ErrorKind::BrokenPipe => Ok(ExitCode::from(NOT_READ)),
+        Err(e) => Err(e),
+    }
 }

@@ -6,7 +6,7 @@ ghost use Rattle.std.specs.Prelude.{◌≤◌, length};
 use std::io;
 use std::io::Stdout;
 
-// Standard output, and the first read or write that failed. After a failure the bench goes on; `main` ends with it.
+// Standard output, and the first read or write that failed: after it the script is read no further, and `main` ends with it.
 #[derive(Drop)]
 pub struct Output {
     to: Stdout,
@@ -23,6 +23,11 @@ impl Output {
         if self.failed.is_ok() {
             self.failed = done;
         }
+    }
+
+    // Whether no read and no write failed.
+    pub fn is_fine(&self) -> bool {
+        self.failed.is_ok()
     }
 
     // The first failure, if there was one.
