@@ -92,12 +92,9 @@ pub fn untouched(out: &[u8], at: usize) -> usize {
     if out.len() < at {
         return 0;
     }
-    let mut i = at;
-    while i < out.len() {
-        if out[i] != UNTOUCHED {
-            return 0;
-        }
-        i += 1;
+    if out[at..].iter().all(|b| *b == UNTOUCHED) {
+        1
+    } else {
+        0
     }
-    1
 }

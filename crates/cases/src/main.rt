@@ -7,7 +7,6 @@ mod boards;
 
 ghost use Rattle.std.specs.Prelude.{◌≤◌, length};
 
-use byte_slices::wide;
 use case_masters::call_master;
 use case_setup::answers::Output;
 use case_setup::fields::{Fields, fields_of};
@@ -55,6 +54,28 @@ struct Input {
     was_read: io::Result<()>,
 }
 
+impl Input {
+    fn new(alloc: Global, stdin: Stdin) -> io::Result<Self> {
+        Ok(Self {
+            reader: BufReader::new(alloc, stdin)?,
+            was_read: Ok(()),
+        })
+    }
+
+    // The next byte, unless the file is at its end.
+    fn next_byte(&mut self) -> Option<u8> {
+        let mut one = [0u8; 1];
+        match self.reader.read(&mut one) {
+            Ok(0) => None,
+            Ok(_) => Some(one[0]),
+            Err(e) => {
+                self.was_read = Err(e);
+                None
+            }
+        }
+    }
+}
+
 // What the program reads and writes.
 #[derive(Drop)]
 struct Streams {
@@ -64,14 +85,6 @@ struct Streams {
 }
 
 impl Streams {
-    fn new(rt: &HostRuntime) -> io::Result<Self> {
-        Ok(Self {
-            input: Input::new(rt.alloc(), rt.stdin())?,
-            output: Output::new(rt.alloc(), rt.stdout())?,
-            errors: rt.stderr(),
-        })
-    }
-
     // Says whether all was read and written.
     fn finish(self) -> io::Result<()> {
         let Self {
@@ -98,13 +111,11 @@ fn tell(errors: Stderr, line: u64, said: Said) {
 
 // Byte i of a flash is a * i + b, modulo 256.
 fn fill(flash: &mut [u8], len: usize, a: usize, b: usize) {
-    let step = a % 256;
-    let mut v = b % 256;
-    let mut i = 0;
-    while i < flash.len() && i < len {
-        flash[i] = byte(v);
-        v = (v + step) % 256;
-        i += 1;
+    let step = byte(a);
+    let mut next = byte(b);
+    for place in flash.iter_mut().take(len) {
+        *place = next;
+        next = next.wrapping_add(step);
     }
 }
 
@@ -188,42 +199,21 @@ fn one_line(
     }
 }
 
-impl Input {
-    fn new(alloc: Global, stdin: Stdin) -> io::Result<Self> {
-        Ok(Self {
-            reader: BufReader::new(alloc, stdin)?,
-            was_read: Ok(()),
-        })
-    }
-
-    // The next byte of the input; 256 at its end.
-    fn next_byte(&mut self) -> usize {
-        let mut one = [0u8; 1];
-        match self.reader.read(&mut one) {
-            Ok(0) => 256,
-            Ok(_) => wide(one[0]),
-            Err(e) => {
-                self.was_read = Err(e);
-                256
-            }
-        }
-    }
-}
-
 // Reads a line without its end. One that fills the lent bytes is too long.
 fn read_line(input: &mut Input, line: &mut [u8]) -> Read
     ensures { result.len ≤ length line.old }
 {
-    let mut len = 0;
-    while len < line.len() {
-        let b = input.next_byte();
-        if b == 10 || b == 256 {
-            return Read { len, more: b == 10 };
+    for len in 0..line.len() {
+        match input.next_byte() {
+            None => return Read { len, more: false },
+            Some(b'\n') => return Read { len, more: true },
+            Some(b) => line[len] = b,
         }
-        line[len] = byte(b);
-        len += 1;
     }
-    Read { len, more: false }
+    Read {
+        len: line.len(),
+        more: false,
+    }
 }
 
 // The next line, after so many.
@@ -252,15 +242,20 @@ fn run(streams: &mut Streams, line: &mut [u8], flash: &mut [u8]) {
         setup: Setup::start(),
         more: true,
     };
-    let mut number: u64 = 0;
-    while number < u64::MAX && now.more {
+    for number in 0..u64::MAX {
+        if !now.more {
+            return;
+        }
         now = turn(streams, number, line, now.setup, flash);
-        number += 1;
     }
 }
 
 fn main(rt: HostRuntime) -> io::Result<()> {
-    let mut streams = Streams::new(&rt)?;
+    let mut streams = Streams {
+        input: Input::new(rt.alloc(), rt.stdin())?,
+        output: Output::new(rt.alloc(), rt.stdout())?,
+        errors: rt.stderr(),
+    };
     let mut line = [0u8; 65536];
     let mut flash = [0u8; 131072];
     run(&mut streams, &mut line, &mut flash);

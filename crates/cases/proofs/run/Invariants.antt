@@ -1,6 +1,0 @@
--- `cases::run`: the lines are counted up.
-use Rattle.std.proofs.Common.{◌-◌}
-use Rattle.cases.proofs.run.Given as goal
-
-abbrev pub decreases-loop-number : goal.decreases-loop-number
-decreases-loop-number l = 18446744073709551615 - l.number
