@@ -34,16 +34,27 @@ stale() {
     [ -n "$(find "${sources[@]}" -newer "$file" -print -quit 2> /dev/null)" ]
 }
 
-# library NAME: where rt puts the library of a crate. The folder is made anew each time, so its own time is that of the build.
+# stands FILE STAMP NAME: FILE is what rt made of the crate's sources as they are. rt leaves its STAMP only if no source changed meanwhile; rt ci
+# leaves none, and scripts/test then leaves target/proved, which has the time at which rt ci began.
+stands() {
+    [ -e "$1" ] || return
+    if [ -e "$2" ]; then
+        ! stale "$2" "$3"
+    else
+        [ "$1" -nt "$root/target/proved" ] && ! stale "$root/target/proved" "$3"
+    fi
+}
+
+# library NAME: where rt puts the library of a crate, a folder that it makes anew each time.
 library() {
     echo "$root/crates/$1/out/rlib/$1.rlib"
 }
 
-# libraries_stand NAME..: rt has proved and built the libraries of these crates and of all that they stand on, rt ci too, and no source is younger.
+# libraries_stand NAME: so do all libraries that a crate stands on.
 libraries_stand() {
     local crate
-    for crate in $(crates_of "$@"); do
-        if stale "$(library "$crate")" "$crate"; then return 1; fi
+    for crate in $(crates_of "$1"); do
+        [ "$crate" = "$1" ] || stands "$(library "$crate")" "$root/crates/$crate/out/rlib/stamp" "$crate" || return
     done
 }
 
@@ -77,25 +88,30 @@ progress() {
     if [ -t 2 ] && [ "$count" -gt "$2" ]; then echo >&2; fi
 }
 
-# prove NAME WORD..: rt WORD.. in the crate's folder, with its progress; if it fails, with all that it printed but of the crates that are proved.
+# shortened: of what rt prints, all but what it says of the crates that are proved.
+shortened() {
+    awk '
+        /^logic=proved / { said = ""; next }
+        /^fn [^ ]+: proved$|^rt: chose |^(logic|statements|library) [^ ]+: / { next }
+        { said = said $0 "\n" }
+        END { printf "%s", said }' "$1"
+}
+
+# prove NAME WORD..: rt WORD.. in the crate's folder, with its progress; if it fails, with what it printed.
 prove() {
     local name=$1 crate total=0 before=0 log=$root/target/$1.log status=0
     shift
     "$root/scripts/needs" rt mawk || return
-    # rt takes a library that is younger than its sources, unless rt ci built it: such a library has no stamp
     for crate in $(crates_of "$name"); do
         total=$((total + 1))
-        if [ -e "$root/crates/$crate/out/rlib/stamp" ] && ! stale "$(library "$crate")" "$crate"; then before=$((before + 1)); fi
+        # rt takes no library that has no stamp
+        if [ -e "$root/crates/$crate/out/rlib/stamp" ] && ! stale "$root/crates/$crate/out/rlib/stamp" "$crate"; then before=$((before + 1)); fi
     done
     mkdir -p "$root/target"
     echo "$name: proving and building; $total crates, many minutes if none is proved yet" >&2
     (cd "$root/crates/$name" && rt "$@") < /dev/null 2>&1 | tee "$log" | progress "$name" "$before" "$total" || status=$?
     if [ "$status" -ne 0 ]; then
-        awk '
-            /^logic=proved / { said = ""; next }
-            /^fn [^ ]+: proved$|^rt: chose |^(logic|statements|library) [^ ]+: / { next }
-            { said = said $0 "\n" }
-            END { printf "%s", said }' "$log" >&2
+        shortened "$log" >&2
         echo "$name: rt $1 failed; target/$name.log has all that it printed" >&2
     fi
     return "$status"
@@ -104,35 +120,39 @@ prove() {
 # static_library NAME FILE [TOOLCHAIN]: what the crate NAME_c exports, compiled, as the archive FILE. The libraries below it are proved and
 # built first if they don't stand; NAME_c is proved here. TOOLCHAIN: a folder like the kit's own, whose clang compiles it.
 static_library() {
-    local name=$1 file=$2 kit toolchain crate words=() log=$root/target/$1_c.log
+    local name=$1 part=$1_c kit log=$root/target/$1_c.log words crate
     "$root/scripts/needs" rt mawk || return
     kit=$(kit)
-    toolchain=${3:-$kit/toolchain}
-    libraries_stand "$name" || prove "$name" lib || return
-    for crate in $(crates_of "${name}_c"); do
-        if [ "$crate" != "${name}_c" ]; then words+=(--extern "$crate=$(library "$crate")"); fi
+    words=(--crate-name "$part" src/lib.rt --links "$part=" --extern "std=$kit/rlibs/std.rlib" -L "dependency=$kit/rlibs")
+    for crate in $(crates_of "$part"); do
+        if [ "$crate" != "$part" ]; then words+=(--extern "$crate=$(library "$crate")"); fi
     done
+    words+=(--antt-project "$kit/rattle/logic/antt-project.json" --logic-built "$kit/logic_built")
+    words+=(--crate-type staticlib --toolchain "${3:-$kit/toolchain}" --backend llvm -o "$2")
     mkdir -p "$root/target"
-    if ! (cd "$root/crates/${name}_c" && "$kit/bin/rattle" build --crate-name "${name}_c" src/lib.rt \
-        --extern "std=$kit/rlibs/std.rlib" -L "dependency=$kit/rlibs" "${words[@]}" --links "${name}_c=" \
-        --antt-project "$kit/rattle/logic/antt-project.json" --logic-built "$kit/logic_built" \
-        --crate-type staticlib --toolchain "$toolchain" --backend llvm -o "$file") < /dev/null > "$log" 2>&1; then
-        grep -vE '^fn [^ ]+: proved$|^(logic|statements|library) [^ ]+: ' "$log" >&2
-        echo "$name: the library of ${name}_c was not built; target/${name}_c.log has all that rattle printed" >&2
-        return 1
+    if libraries_stand "$part"; then
+        if (cd "$root/crates/$part" && "$kit/bin/rattle" build "${words[@]}") < /dev/null > "$log" 2>&1; then return; fi
+        # some are rt ci's, and others were built over other ones: then rt builds them
+        if ! grep -qF 'error[unusable-built-library]' "$log"; then not_built "$part" "$log" || return; fi
     fi
+    prove "$name" lib || return
+    (cd "$root/crates/$part" && "$kit/bin/rattle" build "${words[@]}") < /dev/null > "$log" 2>&1 || not_built "$part" "$log"
+}
+not_built() {
+    shortened "$2" >&2
+    echo "$1: its library was not built; target/$1.log has all that rattle printed" >&2
+    return 1
 }
 
-# build_program NAME: target/bin/NAME, proved and built anew if it is stale. rt has a program only run: it gets no input, and a file to write
-# to where it takes one.
+# build_program NAME: target/bin/NAME, proved and built anew if it is stale. To build a program rt runs it: it gets no input, and no file.
 build_program() {
     local program=$root/target/bin/$1 made=$root/crates/$1/out/$1 status=0
     stale "$program" "$1" || return 0
     begin_build "$program"
-    if stale "$made" "$1"; then
+    if ! stands "$made" "$made.stamp" "$1"; then
         prove "$1" run -- /dev/null /dev/null || status=$?
-        # a program that was built and ends in a failure is there all the same
-        if [ "$status" -ne 0 ] && stale "$made" "$1"; then return 1; fi
+        # a program that was built and then ends in a failure is there all the same
+        if [ "$status" -ne 0 ] && ! stands "$made" "$made.stamp" "$1"; then return 1; fi
     fi
     [ -x "$made" ] || { echo "$1: rt left no program crates/$1/out/$1" >&2; return 1; }
     cp "$made" "$program.new"
