@@ -1,27 +1,20 @@
 -- The decoder's answer taken apart: what its promise says where it is a reply, and where it is a refusal.
 use mathlib.Core.Path.{◌≡◌, refl, sym, ap, ◌∙◌}
 use mathlib.Core.Bool.{false}
-use mathlib.Core.List.{List, [], ◌∷◌}
+use mathlib.Core.List.{List}
 use Prim.Native.Nat.{ℕ, ◌+◌, ◌-◌, ◌≤◌}
 use native.Mathlib.Omega.{arith}
 use lib.Dec.{eqb}
 use lib.ListN.{length, take, drop}
-use denote.Enum.Declared.{tag_of}
-use types.Run.{OneOf, miss}
-use Rattle.rules.specs.contracts.requests.Decoded.{the_type}
 use Rattle.rules.specs.declared.requests.Decoded.{Decoded}
 use Rattle.rules.specs.declared.requests.Decoded.TheVariants.{Reply, NotServed, TooShort, SumWrong, OtherAddress, LengthWrong}
 use Rattle.rules.specs.declared.requests.Decoded.TheVariants.{StatusUnknown, ResultsMissing}
 use Rattle.rules.specs.Master.{Decoding, decoded_as, results_in}
 use Rattle.decoder.specs.Calls.{Decodes}
 
--- the places of the refusals among the answers
-abbrev pub refusals : List ℕ
-refusals = 1 ∷ 2 ∷ 3 ∷ 4 ∷ 5 ∷ 6 ∷ 7 ∷ []
-
 -- a refusal has another number than 0
-refused : (d : Decoded) → OneOf refusals (tag_of the_type d) → eqb (decoded_as d).number 0 ≡ false
-refused (Reply status start len) h = absurd (miss refusals 0 tt h)
+refused : (d : Decoded) → ((status start len : ℕ) → d ≡ Reply status start len → ⊥) → eqb (decoded_as d).number 0 ≡ false
+refused (Reply status start len) h = absurd (h status start len refl)
 refused NotServed h = refl
 refused TooShort h = refl
 refused SumWrong h = refl
@@ -31,7 +24,7 @@ refused StatusUnknown h = refl
 refused ResultsMissing h = refl
 
 module _ {answer : Decoded} {d : Decoding} {reply : List ℕ} (e : Decodes answer d reply) where
-  pub decodes_refused : OneOf refusals (tag_of the_type answer) → eqb d.number 0 ≡ false
+  pub decodes_refused : ((status start len : ℕ) → answer ≡ Reply status start len → ⊥) → eqb d.number 0 ≡ false
   decodes_refused h = rw (← e.answer_is) (refused answer h)
 
   module _ {status start len : ℕ} (q : answer ≡ Reply status start len) where

@@ -15,25 +15,14 @@ use Rattle.frame.specs.Seal.{Sealing}
 use Rattle.request_bytes.specs.Making.{Makes}
 
 -- a list copied behind the first n
-pub makes_part : (n : ℕ) (out more last : List ℕ) (r : ℕ) → n + length more ≤ length out → r ≡ length more
-    → last ≡ take (length more) more ++ drop (length more) (mid_of n (length out - n) out)
-    → Makes (take n out ++ more) out (put_mid n (length out - n) out last) (n + r)
-makes_part n out more last r fits e l =
-    let left : length (drop n out) ≤ length out - n = simp length-drop (omega arith) in
+pub makes_part : (n : ℕ) (out more : List ℕ) {last : List ℕ} → n + length more ≤ length out → last ≡ more
+    → Makes (take n out ++ more) out (put_mid n (n + length more - n) out last) (n + length more)
+makes_part n out more fits same =
+    let many : n + length more - n ≡ length more = omega arith in
     let long : length (take n out ++ more) ≡ n + length more = simp (length-append, length-take) (omega arith) in
     record {
-      length_is = sym (long ∙ ap (λ (k : ℕ). n + k) (sym e));
-      output_is =
-          rw (
-            l,
-            take-length more,
-            take_all (length out - n) (drop n out) left,
-            drop_of_length-le (drop n out) left,
-            append-nil,
-            drop-drop (length more) n out,
-            long,
-          )
-          (sym (append_assoc (take n out) more (drop (n + length more) out)));
+      length_is = sym long;
+      output_is = rw (same, many, long, drop-drop (length more) n out) (sym (append_assoc (take n out) more (drop (n + length more) out)));
     }
 
 module _ {xs before after : List ℕ} {n : ℕ} (made : Makes xs before after n) where

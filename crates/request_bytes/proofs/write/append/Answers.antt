@@ -3,6 +3,4 @@ use Rattle.request_bytes.proofs.WriteLaws.{makes_part}
 use Rattle.request_bytes.proofs.write.append.Goals as goal
 
 pub returns : goal.returns
-returns c =
-    makes_part c.args.n c.args.out.now c.args.more.now _ _ c.requires c.copy.ensures.0
-    c.copy.ensures.1
+returns c = makes_part c.args.n c.args.out.now c.args.more.now c.requires c.copy_from_slice.ensures.after
