@@ -1,11 +1,10 @@
 -- The code's calls: by the contract each tally is the one before, counted by the number that the rules give, which is the answer's.
 use mathlib.Core.Path.{◌≡◌, refl, sym, ap, ◌∙◌}
 use mathlib.Core.List.{List, [], ◌∷◌}
-use Prim.Native.Nat.{ℕ, ◌<◌}
+use Prim.Native.Nat.{ℕ}
 use lib.ListN.{length}
 use Rattle.rules.specs.declared.kinds.Bus.TheVariants.{I2c}
 use Rattle.rules.specs.Numbers.{number}
-use Rattle.rules.specs.Board.{received}
 use Rattle.state.specs.declared.State.{State}
 use Rattle.state.specs.View.{view}
 use Rattle.profile.specs.declared.Profile.{Profile}

@@ -1,9 +1,9 @@
 -- Boards of the rules that keep a wrong tally: each with one error.
-use Rattle.std.specs.Prelude.{false, cond, ◌&&◌, List, ℕ, ◌+◌, ◌%◌, eqb}
+use Rattle.std.specs.Prelude.{false, cond, ◌&&◌, List, ℕ, eqb}
 use Rattle.rules.specs.Profile.{Profile}
 use Rattle.rules.specs.State.{State, with_running}
 use Rattle.rules.specs.Frames.{is_general, reset_frame}
-use Rattle.rules.specs.Board.{received, read_out}
+use Rattle.rules.specs.Board.{read_out}
 use Rattle.ledger.specs.Calls.{Call, Frame, Read, ruled}
 use Rattle.tally.specs.declared.Tally.{Tally}
 use Rattle.tally.specs.Tally.{cleared, tallied}

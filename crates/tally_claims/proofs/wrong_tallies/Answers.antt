@@ -1,12 +1,8 @@
 -- `tally_claims::wrong_tallies` meets its contract: a short frame at 65,535; an I²C read of a stored reply; a foreign frame while running;
 -- a reset with counters at their limit.
-use mathlib.Core.Path.{◌≡◌, refl, ap}
-use mathlib.Core.Bool.{true}
-use mathlib.Core.List.{List, [], ◌∷◌}
-use Prim.Native.Nat.{ℕ, ◌≤◌}
-use native.Mathlib.Omega.{arith}
+use Rattle.std.proofs.Common.{◌≡◌, ap, true, [], ◌∷◌, ℕ, arith}
 use Rattle.rules.specs.declared.kinds.Bus.TheVariants.{I2c, Rs485}
-use Rattle.rules.specs.State.{State, fresh, with_running, with_last}
+use Rattle.rules.specs.State.{fresh, with_running, with_last}
 use Rattle.rules.specs.Frames.{request, reset_frame}
 use Rattle.ledger.specs.Calls.{Frame, Read}
 use Rattle.wrongboards.proofs.Computing.{computing}
@@ -15,8 +11,7 @@ use Rattle.tally.specs.declared.Tally.{Tally}
 use Rattle.tally.specs.Tally.{cleared}
 use Rattle.tally_claims.specs.Counting.{AtMost, full, noted, TallyRight}
 use Rattle.tally_claims.specs.WrongTallies.{wraps, counts_reads, counts_running, reset_clears}
-use Rattle.tally_claims.proofs.wrong_tallies.Statement.{statement}
-use Rattle.tally_claims.proofs.wrong_tallies.Tie as tie
+use Rattle.tally_claims.proofs.wrong_tallies.Goals as goal
 
 cleared_most : AtMost cleared full
 cleared_most = record { short = omega arith; long = omega arith; sum = omega arith; foreign = omega arith; answered = omega arith }
@@ -52,8 +47,5 @@ reset_cleared h =
     let short : ◌≡◌ {A = ℕ} 0 65535 = ap (λ (t : Tally). t.short) right.counts in
     omega arith
 
-returns : tie.Need-returns
+pub returns : goal.returns
 returns c = (wrapped, read_counted, running_counted, reset_cleared)
-
-pub wrong_tallies_spec : {M : Type 1} → statement M
-wrong_tallies_spec = tie.close (tie.spec returns)
