@@ -11,5 +11,5 @@ pub returns : goal.returns
 unfolding silence_number
 returns c =
     record {
-  told = λ p s a f d n. received_told (profile_of (profile_at p)) (view (state_at s)) a f d n;
-}
+      told = λ p s a f d n. received_told (profile_of (profile_at p)) (view (state_at s)) a f d n;
+    }

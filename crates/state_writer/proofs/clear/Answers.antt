@@ -11,13 +11,12 @@ pub loop-i-init : goal.loop-i-init
 loop-i-init c = (omega arith, refl, refl)
 
 pub loop-i-preserved : goal.loop-i-preserved
-loop-i-preserved c =
-    (
-      omega arith,
-      simp length-set c.loop-i.invariant.1,
-      rw c.loop-i.invariant.2
-          (laid_snoc (replicate c.loop-i.i 0) c.args.b.now c.loop-i.i 0 (length-replicate c.loop-i.i 0) (omega arith) ∙ rw (replicate_snoc c.loop-i.i 0)),
-    )
+loop-i-preserved c = (
+  omega arith,
+  simp length-set c.loop-i.invariant.1,
+  rw c.loop-i.invariant.2
+      (laid_snoc (replicate c.loop-i.i 0) c.args.b.now c.loop-i.i 0 (length-replicate c.loop-i.i 0) (omega arith) ∙ rw (replicate_snoc c.loop-i.i 0)),
+)
 
 pub shape_of-b : goal.shape_of-b
 shape_of-b c = c.loop-i.invariant.1

@@ -1,5 +1,5 @@
 -- `version_rule::version` meets its contract: each arm is the rule for its major.
-use Rattle.std.proofs.Common.{ne_eqb}
+use Rattle.std.proofs.Common.{ne_eqb, rules}
 use Rattle.rules.specs.Master.{version_rule}
 use Rattle.version_rule.proofs.version.Goals as goal
 
@@ -21,6 +21,4 @@ returns-else-minor-eq0 c = rw (c.in-0.is, ne_eqb _ _ c.if-minor-eq0.false)
 
 pub returns-in_default : goal.returns-in_default
 unfolding version_rule
-returns-in_default c =
-    let others = c.in_default.in_default-own.rest in
-    rw (ne_eqb _ _ others.0.0.1, ne_eqb _ _ others.0.1, ne_eqb _ _ others.1)
+returns-in_default c = search rules
