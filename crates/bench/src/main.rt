@@ -62,14 +62,23 @@ fn start_with(
     run_script(output, files, input, &mut line, memory)
 }
 
+// Lends the memory. It comes as a parameter, since the proof then has its length from its type, and need not count so many bytes.
+fn start_in(
+    output: &mut Output,
+    files: &impl Files,
+    input: &mut (impl io::Read + IsTerminal),
+    mut memory: [u8; MEMORY],
+) -> usize {
+    start_with(output, files, input, &mut memory)
+}
+
 // Answers the script's status.
 fn start(
     output: &mut Output,
     files: &impl Files,
     input: &mut (impl io::Read + IsTerminal),
 ) -> usize {
-    let mut memory = [0u8; MEMORY];
-    start_with(output, files, input, &mut memory)
+    start_in(output, files, input, [0u8; MEMORY])
 }
 
 // The length of the argument at a place, which is put at the start of `path`, if there is one. One that is too long counts as empty: no
