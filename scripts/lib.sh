@@ -132,8 +132,8 @@ static_library() {
     mkdir -p "$root/target"
     if libraries_stand "$part"; then
         if (cd "$root/crates/$part" && "$kit/bin/rattle" build "${words[@]}") < /dev/null > "$log" 2>&1; then return; fi
-        # some are rt ci's, and others were built over other ones: then rt builds them
-        if ! grep -qF 'error[unusable-built-library]' "$log"; then not_built "$part" "$log" || return; fi
+        # some are rt ci's and others were built over other ones, or another toolchain built them: then rt builds them
+        if ! grep -qE 'error\[unusable-built-library\]|Run the lower steps again' "$log"; then not_built "$part" "$log" || return; fi
     fi
     prove "$name" lib || return
     (cd "$root/crates/$part" && "$kit/bin/rattle" build "${words[@]}") < /dev/null > "$log" 2>&1 || not_built "$part" "$log"
