@@ -34,8 +34,8 @@ stale() {
     [ -n "$(find "${sources[@]}" -newer "$file" -print -quit 2> /dev/null)" ]
 }
 
-# stands FILE STAMP NAME: FILE is what rt made of the crate's sources as they are. rt leaves its STAMP only if no source changed meanwhile; rt ci
-# leaves none, and scripts/test then leaves target/proved, which has the time at which rt ci began.
+# stands FILE STAMP NAME: FILE is what rt made of the crate's sources as they are. rt leaves its STAMP only if no source changed meanwhile;
+# rt ci leaves none, and scripts/test then leaves target/proved, which has the time at which rt ci began.
 stands() {
     [ -e "$1" ] || return
     if [ -e "$2" ]; then
@@ -69,8 +69,8 @@ end_build() {
     rm -f "$1.begun"
 }
 
-# progress NAME COUNT TOTAL: reads what rt prints, and says on standard error how many crates are proved, COUNT of them before: in place on a
-# terminal, else a line now and then.
+# progress NAME COUNT TOTAL: reads what rt prints, and says on standard error how many crates are proved, COUNT of them before: in place on
+# a terminal, else a line now and then.
 progress() {
     local line crate='' count=$2 told=$SECONDS
     while IFS= read -r line; do
@@ -99,13 +99,14 @@ shortened() {
 
 # prove NAME WORD..: rt WORD.. in the crate's folder, with its progress; if it fails, with what it printed.
 prove() {
-    local name=$1 crate total=0 before=0 log=$root/target/$1.log status=0
+    local name=$1 crate stamp total=0 before=0 log=$root/target/$1.log status=0
     shift
     "$root/scripts/needs" rt mawk || return
     for crate in $(crates_of "$name"); do
         total=$((total + 1))
         # rt takes no library that has no stamp
-        if [ -e "$root/crates/$crate/out/rlib/stamp" ] && ! stale "$root/crates/$crate/out/rlib/stamp" "$crate"; then before=$((before + 1)); fi
+        stamp=$root/crates/$crate/out/rlib/stamp
+        if [ -e "$stamp" ] && ! stale "$stamp" "$crate"; then before=$((before + 1)); fi
     done
     mkdir -p "$root/target"
     echo "$name: proving and building; $total crates, many minutes if none is proved yet" >&2
@@ -132,8 +133,8 @@ static_library() {
     mkdir -p "$root/target"
     if libraries_stand "$part"; then
         if (cd "$root/crates/$part" && "$kit/bin/rattle" build "${words[@]}") < /dev/null > "$log" 2>&1; then return; fi
-        # some are rt ci's, and others were built over other ones: then rt builds them
-        if ! grep -qF 'error[unusable-built-library]' "$log"; then not_built "$part" "$log" || return; fi
+        # some are rt ci's and others were built over other ones, or another toolchain built them: then rt builds them
+        if ! grep -qE 'error\[unusable-built-library\]|Run the lower steps again' "$log"; then not_built "$part" "$log" || return; fi
     fi
     prove "$name" lib || return
     (cd "$root/crates/$part" && "$kit/bin/rattle" build "${words[@]}") < /dev/null > "$log" 2>&1 || not_built "$part" "$log"
