@@ -10,7 +10,7 @@ import re
 import sys
 
 PATH = re.compile(r"[a-z_0-9]+/(specs|src)/\w+")
-NAME = re.compile(r"[A-Za-z][A-Za-z0-9-]*")
+NAME = re.compile(r"[A-Za-z]\w*")
 faults = []
 
 
@@ -102,7 +102,7 @@ def check_links(path):
 
 
 def check_map():
-    listed = {line.split(":")[0].strip() for line in re.sub(r"#.*", "", text_of("crates.txt")).split("\n") if ":" in line}
+    listed = {line.split(":")[0].split()[0] for line in re.sub(r"#.*", "", text_of("crates.txt")).split("\n") if ":" in line}
     readme = text_of("README.md")
     rows = re.search(r"\| Crate \| Holds \|\n(.*?)\n\n", readme, re.S).group(1).split("\n")
     mapped = {name for row in rows for name in re.findall(r"`(\w+)`", row.split("|")[1])}

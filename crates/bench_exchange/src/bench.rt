@@ -1,5 +1,5 @@
 // What the bench remembers between lines: the board's profile and state, the master's side, and what must not be missed.
-use bench_output::{increment, say, tell};
+use bench_output::{Output, increment, say, tell};
 use bench_script::fields::Parsed;
 use profile::Profile;
 use rules::kinds::{Address, Bus};
@@ -212,29 +212,34 @@ impl Bench {
     }
 
     // A line that was not understood: it says what was expected, and changes nothing else.
-    pub fn refused(mut self, expected: &[u8]) -> Self {
+    pub fn refused(mut self, output: &mut Output, expected: &[u8]) -> Self {
         tell(
+            output,
             b"  line % is not understood and changes nothing\n    expected: ",
             self.lines,
         );
-        say(expected);
-        say(b"\n");
+        say(output, expected);
+        say(output, b"\n");
         self.wrong = increment(self.wrong);
         self
     }
 
     // A line that cannot be done, since a file cannot be used.
-    fn undone(mut self) -> Self {
-        tell(b"  line % is not done and changes nothing\n", self.lines);
+    fn undone(mut self, output: &mut Output) -> Self {
+        tell(
+            output,
+            b"  line % is not done and changes nothing\n",
+            self.lines,
+        );
         self.wrong = increment(self.wrong);
         self
     }
 
     // A line whose bytes could not be read.
-    pub fn refused_data(self, got: Parsed, expected: &[u8]) -> Self {
+    pub fn refused_data(self, output: &mut Output, got: Parsed, expected: &[u8]) -> Self {
         match got {
-            Parsed::Unusable => self.undone(),
-            _ => self.refused(expected),
+            Parsed::Unusable => self.undone(output),
+            _ => self.refused(output, expected),
         }
     }
 }

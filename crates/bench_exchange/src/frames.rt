@@ -5,6 +5,7 @@ use crate::{application, library};
 use bench_alarms::alarm;
 use bench_alarms::changes::tell_changes;
 use bench_memory::pages;
+use bench_output::Output;
 use bench_wording::meaning;
 use bench_wording::reply::{Asked, RequestResult};
 use numbers::{board_number, reply_length};
@@ -127,54 +128,61 @@ fn reply_address(own: Address, sent: u8) -> u8 {
 }
 
 // The reply as it comes to the master: sent on RS485, read on I²C.
-fn fetched(d: Bench, asked: Asked, c: Called, memory: &[u8]) -> Reply {
+fn fetched(output: &mut Output, d: Bench, asked: Asked, c: Called, memory: &[u8]) -> Reply {
     let outcome = c.outcome;
     let v = c.verdict;
     let Outcome::Reply(n) = outcome else {
-        return no_reply(meaning::tell_answer(outcome, v, asked.code));
+        return no_reply(meaning::tell_answer(output, outcome, v, asked.code));
     };
     let bus = asked.bus;
     let by = c.by;
     let out = c.out;
     match bus {
         Bus::I2c => read_reply(
+            output,
             d,
             asked.verbose,
             reply_address(d.own(), asked.address),
             memory,
         ),
-        Bus::Rs485 => arrived(d, by, out, n, asked.verbose, asked.address),
+        Bus::Rs485 => arrived(output, d, by, out, n, asked.verbose, asked.address),
     }
 }
 
 // What must not be missed after a call. Bytes that wait are said with each call that is said at all.
-fn tell_alarms(verbose: bool, c: Called, status: usize) {
+fn tell_alarms(output: &mut Output, verbose: bool, c: Called, status: usize) {
     let after = c.state.upload;
-    alarm::tell_lost(c.lost);
+    alarm::tell_lost(output, c.lost);
     if verbose {
-        alarm::tell_waiting_after(status == 0, library::waiting(after));
+        alarm::tell_waiting_after(output, status == 0, library::waiting(after));
     }
     if c.unworn {
-        alarm::tell_unworn(after.next);
+        alarm::tell_unworn(output, after.next);
     }
 }
 
 // What changed in flash and state.
-fn tell_since(verbose: bool, d: Bench, after: State, memory: &mut [u8]) {
-    let rewritten = pages::track(verbose, d.profile, after.upload.next, memory);
+fn tell_since(output: &mut Output, verbose: bool, d: Bench, after: State, memory: &mut [u8]) {
+    let rewritten = pages::track(output, verbose, d.profile, after.upload.next, memory);
     if verbose {
-        tell_changes(d.state, after, rewritten);
+        tell_changes(output, d.state, after, rewritten);
     }
 }
 
 // Gives a frame to the board, and says what the board answered and what changed.
-fn deliver(d: Bench, asked: Asked, frame: &[u8], memory: &mut [u8]) -> Exchange {
+fn deliver(
+    output: &mut Output,
+    d: Bench,
+    asked: Asked,
+    frame: &[u8],
+    memory: &mut [u8],
+) -> Exchange {
     let c = answer_frame(d, asked, frame, memory);
     let now = after_call(d, c);
-    let reply = fetched(now, asked, c, memory);
-    let result = decoded(asked, reply);
-    tell_alarms(asked.verbose, c, result.status);
-    tell_since(asked.verbose, d, c.state, memory);
+    let reply = fetched(output, now, asked, c, memory);
+    let result = decoded(output, asked, reply);
+    tell_alarms(output, asked.verbose, c, result.status);
+    tell_since(output, asked.verbose, d, c.state, memory);
     let outcome = c.outcome;
     Exchange {
         bench: now.after_reply(reply_length(outcome), reply.missed),
@@ -184,11 +192,23 @@ fn deliver(d: Bench, asked: Asked, frame: &[u8], memory: &mut [u8]) -> Exchange 
 }
 
 // Sends a frame, with one byte damaged if the script asked for that, and says what happened.
-pub fn send(d: Bench, asked: Asked, frame: &mut [u8], memory: &mut [u8]) -> Exchange {
+pub fn send(
+    output: &mut Output,
+    d: Bench,
+    asked: Asked,
+    frame: &mut [u8],
+    memory: &mut [u8],
+) -> Exchange {
     if asked.verbose {
-        tell_bytes(b"  request to %: ", asked.address, frame);
+        tell_bytes(output, b"  request to %: ", asked.address, frame);
     }
     let hit = d.frame;
-    damage(frame, hit.due());
-    deliver(d.with_frame_damage(hit.passed()), asked, frame, memory)
+    damage(output, frame, hit.due());
+    deliver(
+        output,
+        d.with_frame_damage(hit.passed()),
+        asked,
+        frame,
+        memory,
+    )
 }

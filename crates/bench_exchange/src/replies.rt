@@ -2,7 +2,7 @@
 use crate::bench::Bench;
 use crate::{application, library};
 use bench_memory::memory::part;
-use bench_output::{as_usize, say, say_byte, say_bytes, tell};
+use bench_output::{Output, as_usize, say, say_byte, say_bytes, tell};
 use bench_wording::meaning;
 use bench_wording::reply::{Asked, RequestResult, decode_reply, no_result};
 use numbers::board_number;
@@ -30,30 +30,30 @@ fn inverted(b: u8) -> u8 {
 }
 
 // Damages a byte, counted from 1; 0 for none.
-pub(crate) fn damage(s: &mut [u8], which: usize) {
+pub(crate) fn damage(output: &mut Output, s: &mut [u8], which: usize) {
     if which < 1 {
         return;
     }
     if s.len() < which {
-        tell(b"  there is no byte % to damage\n", which);
+        tell(output, b"  there is no byte % to damage\n", which);
         return;
     }
     let at = which - 1;
     let old = s[at];
     let new = inverted(old);
     s[at] = new;
-    tell(b"  byte % damaged: ", which);
-    say_byte(old);
-    say(b" -> ");
-    say_byte(new);
-    say(b"\n");
+    tell(output, b"  byte % damaged: ", which);
+    say_byte(output, old);
+    say(output, b" -> ");
+    say_byte(output, new);
+    say(output, b"\n");
 }
 
 // Bytes behind a text with an address in it.
-pub(crate) fn tell_bytes(text: &[u8], address: u8, bytes: &[u8]) {
-    tell(text, as_usize(address));
-    say_bytes(bytes);
-    say(b"\n");
+pub(crate) fn tell_bytes(output: &mut Output, text: &[u8], address: u8, bytes: &[u8]) {
+    tell(output, text, as_usize(address));
+    say_bytes(output, bytes);
+    say(output, b"\n");
 }
 
 // Who replies.
@@ -63,24 +63,25 @@ pub(crate) enum Replier {
     Application,
 }
 
-fn tell_replier(by: Replier) {
+fn tell_replier(output: &mut Output, by: Replier) {
     match by {
-        Replier::Bootloader => say(b"  number 0, reply made"),
-        Replier::Application => say(b"  the application replies"),
+        Replier::Bootloader => say(output, b"  number 0, reply made"),
+        Replier::Application => say(output, b"  the application replies"),
     }
 }
 
 // A reply as it is sent, on I²C read at an address.
-fn tell_reply(bus: Bus, by: Replier, at: u8, reply: &[u8]) {
-    tell_replier(by);
+fn tell_reply(output: &mut Output, bus: Bus, by: Replier, at: u8, reply: &[u8]) {
+    tell_replier(output, by);
     match bus {
-        Bus::I2c => tell_bytes(b"; the master reads it at %: ", at, reply),
-        Bus::Rs485 => tell_bytes(b": ", at, reply),
+        Bus::I2c => tell_bytes(output, b"; the master reads it at %: ", at, reply),
+        Bus::Rs485 => tell_bytes(output, b": ", at, reply),
     }
 }
 
 // A reply of n bytes as it comes to the master.
 pub(crate) fn arrived(
+    output: &mut Output,
     d: Bench,
     by: Replier,
     mut out: [u8; 256],
@@ -93,9 +94,9 @@ pub(crate) fn arrived(
         return no_reply(false);
     }
     if verbose {
-        tell_reply(bus, by, at, &out[0..n]);
+        tell_reply(output, bus, by, at, &out[0..n]);
     }
-    damage(&mut out[0..n], d.reply.due());
+    damage(output, &mut out[0..n], d.reply.due());
     Reply {
         len: n,
         bytes: out,
@@ -104,39 +105,39 @@ pub(crate) fn arrived(
 }
 
 // The master's I²C read of the application's reply.
-fn read_application(d: Bench, verbose: bool, at: u8) -> Reply {
+fn read_application(output: &mut Output, d: Bench, verbose: bool, at: u8) -> Reply {
     let mut out = [0u8; 256];
     let n = application::write_reply(d, at, &mut out);
-    arrived(d, Replier::Application, out, n, verbose, at)
+    arrived(output, d, Replier::Application, out, n, verbose, at)
 }
 
 // The master's I²C read at an address.
-pub fn read_reply(d: Bench, verbose: bool, at: u8, memory: &[u8]) -> Reply {
+pub fn read_reply(output: &mut Output, d: Bench, verbose: bool, at: u8, memory: &[u8]) -> Reply {
     if application::is_read(d, at) {
-        return read_application(d, verbose, at);
+        return read_application(output, d, verbose, at);
     }
     let mut out = [0u8; 256];
     let a = library::read(d.profile, d.state, at, memory, &mut out);
     let outcome = a.outcome;
     match outcome {
-        Outcome::Reply(n) => arrived(d, Replier::Bootloader, out, n, verbose, at),
+        Outcome::Reply(n) => arrived(output, d, Replier::Bootloader, out, n, verbose, at),
         Outcome::Nothing => {
-            meaning::tell_no_read();
+            meaning::tell_no_read(output);
             no_reply(true)
         }
         _ => {
-            meaning::tell_number(board_number(outcome) as usize);
+            meaning::tell_number(output, board_number(outcome) as usize);
             no_reply(true)
         }
     }
 }
 
 // What the master makes of a reply: no result where none came.
-pub fn decoded(asked: Asked, r: Reply) -> RequestResult {
+pub fn decoded(output: &mut Output, asked: Asked, r: Reply) -> RequestResult {
     let n = r.len;
     let bytes = r.bytes;
     if n == 0 {
         return no_result();
     }
-    decode_reply(asked, part(&bytes, 0, n))
+    decode_reply(output, asked, part(&bytes, 0, n))
 }

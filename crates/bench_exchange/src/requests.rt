@@ -5,7 +5,7 @@ use crate::library;
 use crate::replies::{Reply, no_reply};
 use bench_memory::memory;
 use bench_memory::memory::{FLASH, IMAGE};
-use bench_output::min;
+use bench_output::{Output, min};
 use bench_wording::meaning;
 use bench_wording::reply::{Asked, RequestResult, no_result, part};
 use rules::requests::{Encoded, Request};
@@ -48,6 +48,7 @@ fn data_length(from: usize, end: usize) -> usize {
 
 // A request that the master makes and sends. A write's data are the bytes of the image from one place to another.
 pub fn request(
+    output: &mut Output,
     d: Bench,
     r: Request,
     asked: Asked,
@@ -59,13 +60,21 @@ pub fn request(
     let e = encode(d, r, from, end, memory, &mut frame);
     let Encoded::Made(n) = e else {
         let bus = d.bus();
-        meaning::tell_unmade(e, bus, d.profile.longest, r, d.to, data_length(from, end));
+        meaning::tell_unmade(
+            output,
+            e,
+            bus,
+            d.profile.longest,
+            r,
+            d.to,
+            data_length(from, end),
+        );
         return unsent(d);
     };
     if 512 < n {
         return unsent(d);
     }
-    send(d, asked, &mut frame[0..n], memory)
+    send(output, d, asked, &mut frame[0..n], memory)
 }
 
 // A command to where the master sends.

@@ -1,8 +1,10 @@
 // The bytes that the bench lends, in one array: the flash, a copy of it with a count for each page, the flash before an upload, and the
 // bytes that a line gives.
+use bench_output::Output;
 use bench_script::fields::Parsed;
 use bench_script::image::{data, file, fill};
 use state::State;
+use std::fs::Files;
 
 // The length of the lent flash. It stands first.
 pub const FLASH: usize = 131072;
@@ -64,19 +66,24 @@ pub fn restart_map(memory: &mut [u8]) {
 }
 
 // The bytes that a line gives, put into the image: how many.
-pub fn load_data(s: &[u8], memory: &mut [u8]) -> Parsed {
+pub fn load_data(output: &mut Output, files: &impl Files, s: &[u8], memory: &mut [u8]) -> Parsed {
     if memory.len() < MEMORY {
         return Parsed::Wrong;
     }
-    data(s, &mut memory[IMAGE..])
+    data(output, files, s, &mut memory[IMAGE..])
 }
 
 // The bytes of a file, put into the image: how many.
-pub fn load_file(name: &[u8], memory: &mut [u8]) -> Parsed {
+pub fn load_file(
+    output: &mut Output,
+    files: &impl Files,
+    name: &[u8],
+    memory: &mut [u8],
+) -> Parsed {
     if memory.len() < MEMORY {
         return Parsed::Wrong;
     }
-    file(name, &mut memory[IMAGE..])
+    file(output, files, name, &mut memory[IMAGE..])
 }
 
 // The flash, all of it one byte; the map begins anew.

@@ -3,7 +3,7 @@ ghost use Rattle.std.specs.Prelude.{◌<◌, ◌≤◌};
 ghost use Rattle.state.specs.View.{largest_page};
 
 use crate::memory::{COPY, COUNTS, EARLIER, FLASH, MEMORY, PAGES, copy, part};
-use bench_output::{increment, say, tell};
+use bench_output::{Output, increment, say, tell};
 use profile::Profile;
 use state::State;
 
@@ -72,7 +72,14 @@ fn differs(offset: usize, size: usize, page: usize, earlier: usize, memory: &[u8
 }
 
 // A page that may have been rewritten: whether it was.
-fn track_page(verbose: bool, offset: usize, size: usize, page: usize, memory: &mut [u8]) -> bool
+fn track_page(
+    output: &mut Output,
+    verbose: bool,
+    offset: usize,
+    size: usize,
+    page: usize,
+    memory: &mut [u8],
+) -> bool
     requires { size ≤ largest_page }
 {
     if !differs(offset, size, page, COPY, memory) {
@@ -81,7 +88,7 @@ fn track_page(verbose: bool, offset: usize, size: usize, page: usize, memory: &m
     copy_page(offset, size, page, memory);
     count_page(page, memory);
     if verbose {
-        tell(b"  changed: page % erased and rewritten\n", page);
+        tell(output, b"  changed: page % erased and rewritten\n", page);
     }
     true
 }
@@ -95,7 +102,13 @@ fn first_page(size: usize, next: usize) -> usize
 }
 
 // Whether a page was rewritten, up to the page of `next`.
-pub fn track(verbose: bool, p: Profile, next: usize, memory: &mut [u8]) -> bool {
+pub fn track(
+    output: &mut Output,
+    verbose: bool,
+    p: Profile,
+    next: usize,
+    memory: &mut [u8],
+) -> bool {
     let offset = p.offset;
     let size = page_size(p);
     let mut page = first_page(size, next);
@@ -103,7 +116,7 @@ pub fn track(verbose: bool, p: Profile, next: usize, memory: &mut [u8]) -> bool 
     let mut turns = 6usize;
     while 0 < turns {
         turns -= 1;
-        if track_page(verbose, offset, size, page, memory) {
+        if track_page(output, verbose, offset, size, page, memory) {
             n = 1;
         }
         page = increment(page);
@@ -112,16 +125,16 @@ pub fn track(verbose: bool, p: Profile, next: usize, memory: &mut [u8]) -> bool 
 }
 
 // Says each page that changed since the first write of an upload.
-pub fn tell_uploaded(p: Profile, memory: &[u8]) {
-    say(b"  changed since the first write: page");
+pub fn tell_uploaded(output: &mut Output, p: Profile, memory: &[u8]) {
+    say(output, b"  changed since the first write: page");
     let offset = p.offset;
     let size = p.page;
     let mut page = 0;
     while page < PAGES {
         if differs(offset, size, page, EARLIER, memory) {
-            tell(b" %", page);
+            tell(output, b" %", page);
         }
         page += 1;
     }
-    say(b"\n");
+    say(output, b"\n");
 }

@@ -3,14 +3,47 @@
 
 ghost use Rattle.std.specs.Prelude.{◌≤◌, length};
 
-use libc::STDOUT_FILENO;
+use std::io;
+use std::io::Stdout;
 
-pub fn say(s: &[u8]) {
-    io::write_all(STDOUT_FILENO, s);
+// Standard output, and the first read or write that failed: after it the script is read no further, and `main` ends with it.
+#[derive(Drop)]
+pub struct Output {
+    to: Stdout,
+    failed: io::Result<()>,
 }
 
-pub fn say_number(n: usize) {
-    io::print_decimal(STDOUT_FILENO, n as u64);
+impl Output {
+    pub fn new(to: Stdout) -> Self {
+        Output { to, failed: Ok(()) }
+    }
+
+    // A failure is remembered if it is the first.
+    pub fn note(&mut self, done: io::Result<()>) {
+        if self.failed.is_ok() {
+            self.failed = done;
+        }
+    }
+
+    // Whether no read and no write failed.
+    pub fn is_fine(&self) -> bool {
+        self.failed.is_ok()
+    }
+
+    // The first failure, if there was one.
+    pub fn finish(self) -> io::Result<()> {
+        self.failed
+    }
+}
+
+pub fn say(output: &mut Output, s: &[u8]) {
+    let done = output.to.write_all(s);
+    output.note(done);
+}
+
+pub fn say_number(output: &mut Output, n: usize) {
+    let done = output.to.print(n);
+    output.note(done);
 }
 
 // The number at a place; 0 where there is none.
@@ -19,34 +52,34 @@ fn number_at(numbers: [usize; 5], k: usize) -> usize {
 }
 
 // Says a text with numbers in it: each `%` stands for the next one.
-pub fn tell_all(text: &[u8], numbers: [usize; 5]) {
+pub fn tell_all(output: &mut Output, text: &[u8], numbers: [usize; 5]) {
     let mut k = 0;
     let mut from = 0;
     let mut i = 0;
     while i < text.len() {
         if text[i] == b'%' {
-            say(&text[from..i]);
-            say_number(number_at(numbers, k));
+            say(output, &text[from..i]);
+            say_number(output, number_at(numbers, k));
             k = increment(k);
             from = i + 1;
         }
         i += 1;
     }
-    say(&text[from..]);
+    say(output, &text[from..]);
 }
 
 // Says a text with one number in it.
-pub fn tell(text: &[u8], n: usize) {
-    tell_all(text, [n, 0, 0, 0, 0]);
+pub fn tell(output: &mut Output, text: &[u8], n: usize) {
+    tell_all(output, text, [n, 0, 0, 0, 0]);
 }
 
 // Says how many things there are: `1 page`, `2 pages`.
-pub fn say_count(n: usize, thing: &[u8]) {
-    say_number(n);
-    say(b" ");
-    say(thing);
+pub fn say_count(output: &mut Output, n: usize, thing: &[u8]) {
+    say_number(output, n);
+    say(output, b" ");
+    say(output, thing);
     if n != 1 {
-        say(b"s");
+        say(output, b"s");
     }
 }
 
@@ -83,16 +116,17 @@ pub fn find(s: &[u8], b: u8) -> usize
 }
 
 // Says piece k, counted from 0; nothing if there are fewer. A bar `|` stands between two pieces.
-pub fn say_piece(k: usize, pieces: &[u8]) {
+pub fn say_piece(output: &mut Output, k: usize, pieces: &[u8]) {
     let start = piece_start(pieces, k);
     let piece = &pieces[start..];
     let n = find(piece, b'|');
-    say(&piece[0..n]);
+    say(output, &piece[0..n]);
 }
 
 // Says a byte in two hexadecimal digits.
-pub fn say_byte(b: u8) {
-    io::print_hex(STDOUT_FILENO, b as u64, 2);
+pub fn say_byte(output: &mut Output, b: u8) {
+    let done = print!(output.to; "{b:02x}");
+    output.note(done);
 }
 
 // What stands before a number so that it ends at the fifth place.
@@ -110,39 +144,39 @@ fn padding(n: usize) -> usize {
 }
 
 // Says a flash address, as wide as the largest.
-pub fn say_address(a: usize) {
-    say_piece(padding(a), b"    |   |  | |");
-    say_number(a);
+pub fn say_address(output: &mut Output, a: usize) {
+    say_piece(output, padding(a), b"    |   |  | |");
+    say_number(output, a);
 }
 
 // Says a word; of a long one its beginning.
-pub fn say_word(s: &[u8]) {
+pub fn say_word(output: &mut Output, s: &[u8]) {
     if 40 < s.len() {
-        say(&s[0..40]);
-        say(b"..");
+        say(output, &s[0..40]);
+        say(output, b"..");
     } else {
-        say(s);
+        say(output, s);
     }
 }
 
 // Says what stands before byte i: nothing, a blank, or a new line.
-fn gap(i: usize) {
+fn gap(output: &mut Output, i: usize) {
     if i == 0 {
         return;
     }
     if i % 16 == 0 {
-        say(b"\n      ");
+        say(output, b"\n      ");
     } else {
-        say(b" ");
+        say(output, b" ");
     }
 }
 
 // Says bytes, sixteen to a line.
-pub fn say_bytes(s: &[u8]) {
+pub fn say_bytes(output: &mut Output, s: &[u8]) {
     let mut i = 0;
     while i < s.len() {
-        gap(i);
-        say_byte(s[i]);
+        gap(output, i);
+        say_byte(output, s[i]);
         i += 1;
     }
 }

@@ -5,13 +5,14 @@ use bench_exchange::frames::{Exchange, send};
 use bench_exchange::replies::{decoded, read_reply};
 use bench_exchange::requests::{command, request, waiting};
 use bench_memory::memory::load_data;
-use bench_output::{as_usize, tell};
+use bench_output::{Output, as_usize, tell};
 use bench_script::fields::{Parsed, fault, first, hex, is, is_end, number, rest};
 use bench_script::image::after_data;
 use bench_wording::reply::{Asked, one};
 use bench_words::CallWord;
 use rules::kinds::Bus;
 use rules::requests::Request;
+use std::fs::Files;
 
 // The most bytes that a line of digits gives.
 const RAW: usize = 1024;
@@ -20,14 +21,15 @@ const RAW: usize = 1024;
 const ANY: usize = 1000000;
 
 // `ADDRESS type TYPE`: the request; Plain(0) for wrong ones.
-fn set_address_request(s: &[u8]) -> Request {
-    let new = number(b"address", first(s), 0, ANY);
+fn set_address_request(output: &mut Output, s: &[u8]) -> Request {
+    let new = number(output, b"address", first(s), 0, ANY);
     let Parsed::Value(address) = new else {
         return Request::Plain(0);
     };
     let more = rest(s);
     if !is(first(more), b"type") {
         fault(
+            output,
             b"set-address",
             first(more),
             b": the word type and a number follow the address\n",
@@ -35,7 +37,7 @@ fn set_address_request(s: &[u8]) -> Request {
         );
         return Request::Plain(0);
     }
-    let kind = number(b"type", rest(more), 0, ANY);
+    let kind = number(output, b"type", rest(more), 0, ANY);
     let Parsed::Value(hardware) = kind else {
         return Request::Plain(0);
     };
@@ -43,12 +45,12 @@ fn set_address_request(s: &[u8]) -> Request {
 }
 
 // `ADDRESS LENGTH`: the request; Plain(0) for wrong ones.
-fn read_request(s: &[u8]) -> Request {
-    let place = number(b"address", first(s), 0, ANY);
+fn read_request(output: &mut Output, s: &[u8]) -> Request {
+    let place = number(output, b"address", first(s), 0, ANY);
     let Parsed::Value(address) = place else {
         return Request::Plain(0);
     };
-    let count = number(b"length", rest(s), 0, ANY);
+    let count = number(output, b"length", rest(s), 0, ANY);
     let Parsed::Value(length) = count else {
         return Request::Plain(0);
     };
@@ -56,63 +58,71 @@ fn read_request(s: &[u8]) -> Request {
 }
 
 // The master follows the board to its new address.
-fn moved(done: Exchange, address: usize) -> Bench {
+fn moved(output: &mut Output, done: Exchange, address: usize) -> Bench {
     let d = done.bench;
     if done.result.status != 0 {
         return d;
     }
-    tell(b"  the master sends to % from now on\n", address);
+    tell(output, b"  the master sends to % from now on\n", address);
     d.sending_to(address)
 }
 
 // `set-address ADDRESS type TYPE`
-fn set_address(d: Bench, s: &[u8], memory: &mut [u8]) -> Bench {
-    let r = set_address_request(s);
+fn set_address(output: &mut Output, d: Bench, s: &[u8], memory: &mut [u8]) -> Bench {
+    let r = set_address_request(output, s);
     let Request::SetAddress { address, hardware } = r else {
-        return d.refused(b"set-address ADDRESS type TYPE");
+        return d.refused(output, b"set-address ADDRESS type TYPE");
     };
-    let done = request(d, r, command(d, 0x01, 0, true), 0, 0, memory);
-    moved(done, address)
+    let done = request(output, d, r, command(d, 0x01, 0, true), 0, 0, memory);
+    moved(output, done, address)
 }
 
 // `read ADDRESS LENGTH`
-fn read(d: Bench, s: &[u8], memory: &mut [u8]) -> Bench {
-    let r = read_request(s);
+fn read(output: &mut Output, d: Bench, s: &[u8], memory: &mut [u8]) -> Bench {
+    let r = read_request(output, s);
     let Request::Read { address, length } = r else {
-        return d.refused(b"read ADDRESS LENGTH");
+        return d.refused(output, b"read ADDRESS LENGTH");
     };
-    let done = request(d, r, command(d, 0x08, length, true), 0, 0, memory);
+    let done = request(output, d, r, command(d, 0x08, length, true), 0, 0, memory);
     done.bench
 }
 
-fn write_wrong(d: Bench, got: Parsed) -> Bench {
+fn write_wrong(output: &mut Output, d: Bench, got: Parsed) -> Bench {
     d.refused_data(
+        output,
         got,
         b"write ADDRESS and then HEX, fill BYTE COUNT or file NAME, and nothing more",
     )
 }
 
 // A write of the first n bytes of the image, if nothing follows them on the line.
-fn write_loaded(d: Bench, address: usize, n: usize, more: &[u8], memory: &mut [u8]) -> Bench {
-    if !is_end(more) {
-        return write_wrong(d, Parsed::Wrong);
+fn write_loaded(
+    output: &mut Output,
+    d: Bench,
+    address: usize,
+    n: usize,
+    more: &[u8],
+    memory: &mut [u8],
+) -> Bench {
+    if !is_end(output, more) {
+        return write_wrong(output, d, Parsed::Wrong);
     }
     let asked = command(d, 0x06, 0, true);
-    let done = request(d, Request::Write { address }, asked, 0, n, memory);
+    let done = request(output, d, Request::Write { address }, asked, 0, n, memory);
     done.bench
 }
 
 // `write ADDRESS DATA`
-fn write(d: Bench, s: &[u8], memory: &mut [u8]) -> Bench {
-    let place = number(b"address", first(s), 0, ANY);
+fn write(output: &mut Output, files: &impl Files, d: Bench, s: &[u8], memory: &mut [u8]) -> Bench {
+    let place = number(output, b"address", first(s), 0, ANY);
     let Parsed::Value(address) = place else {
-        return write_wrong(d, place);
+        return write_wrong(output, d, place);
     };
-    let got = load_data(rest(s), memory);
+    let got = load_data(output, files, rest(s), memory);
     let Parsed::Value(n) = got else {
-        return write_wrong(d, got);
+        return write_wrong(output, d, got);
     };
-    write_loaded(d, address, n, after_data(rest(s)), memory)
+    write_loaded(output, d, address, n, after_data(rest(s)), memory)
 }
 
 // The command of a raw frame: behind the address. A read's length stands behind its flash address.
@@ -136,16 +146,19 @@ fn beside(d: Bench) -> usize {
 }
 
 // `send BYTES`: address and frame, as they are.
-fn raw(d: Bench, s: &[u8], memory: &mut [u8]) -> Bench {
+fn raw(output: &mut Output, d: Bench, s: &[u8], memory: &mut [u8]) -> Bench {
     let mut bytes = [0u8; RAW];
-    let got = hex(b"bytes", s, &mut bytes);
+    let got = hex(output, b"bytes", s, &mut bytes);
     let Parsed::Value(n) = got else {
-        return d.refused(b"send ADDRESS BYTES, all in hexadecimal digits, as: send 08 00f3");
+        return d.refused(
+            output,
+            b"send ADDRESS BYTES, all in hexadecimal digits, as: send 08 00f3",
+        );
     };
     let start = beside(d);
     if n < 1 {
-        fault(b"send", s, b": the address is missing\n", 0);
-        return d.refused(b"send ADDRESS BYTES: at least the address");
+        fault(output, b"send", s, b": the address is missing\n", 0);
+        return d.refused(output, b"send ADDRESS BYTES: at least the address");
     }
     if RAW < n {
         return d;
@@ -153,39 +166,52 @@ fn raw(d: Bench, s: &[u8], memory: &mut [u8]) -> Bench {
     if n < start {
         return d;
     }
-    let done = send(d, raw_asked(d, &bytes), &mut bytes[start..n], memory);
+    let done = send(
+        output,
+        d,
+        raw_asked(d, &bytes),
+        &mut bytes[start..n],
+        memory,
+    );
     done.bench
 }
 
-fn i2c_read_at(d: Bench, at: usize, memory: &[u8]) -> Bench {
+fn i2c_read_at(output: &mut Output, d: Bench, at: usize, memory: &[u8]) -> Bench {
     let asked = command(d, d.code, d.asked, true);
-    let r = read_reply(d, true, (at % 256) as u8, memory);
+    let r = read_reply(output, d, true, (at % 256) as u8, memory);
     let n = r.len;
     let missed = r.missed;
-    let result = decoded(asked, r);
-    tell_waiting_after(result.status == 0, waiting(d));
+    let result = decoded(output, asked, r);
+    tell_waiting_after(output, result.status == 0, waiting(d));
     d.after_reply(n, missed)
 }
 
 // `i2c-read`, `i2c-read ADDRESS`
-fn i2c_read(d: Bench, s: &[u8], memory: &[u8]) -> Bench {
+fn i2c_read(output: &mut Output, d: Bench, s: &[u8], memory: &[u8]) -> Bench {
     if s.len() == 0 {
-        return i2c_read_at(d, d.to, memory);
+        return i2c_read_at(output, d, d.to, memory);
     }
-    let given = number(b"address", s, 0, 255);
+    let given = number(output, b"address", s, 0, 255);
     let Parsed::Value(at) = given else {
-        return d.refused(b"i2c-read, or i2c-read ADDRESS");
+        return d.refused(output, b"i2c-read, or i2c-read ADDRESS");
     };
-    i2c_read_at(d, at, memory)
+    i2c_read_at(output, d, at, memory)
 }
 
 // What follows `write`, `read`, `set-address`, `send` or `i2c-read`.
-pub fn run_line(d: Bench, word: CallWord, s: &[u8], memory: &mut [u8]) -> Bench {
+pub fn run_line(
+    output: &mut Output,
+    files: &impl Files,
+    d: Bench,
+    word: CallWord,
+    s: &[u8],
+    memory: &mut [u8],
+) -> Bench {
     match word {
-        CallWord::Write => write(d, s, memory),
-        CallWord::Read => read(d, s, memory),
-        CallWord::SetAddress => set_address(d, s, memory),
-        CallWord::Send => raw(d, s, memory),
-        CallWord::I2cRead => i2c_read(d, s, memory),
+        CallWord::Write => write(output, files, d, s, memory),
+        CallWord::Read => read(output, d, s, memory),
+        CallWord::SetAddress => set_address(output, d, s, memory),
+        CallWord::Send => raw(output, d, s, memory),
+        CallWord::I2cRead => i2c_read(output, d, s, memory),
     }
 }

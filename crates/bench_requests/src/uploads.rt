@@ -4,11 +4,12 @@ use bench_exchange::bench::Bench;
 use bench_exchange::requests::{command, is_image, request, upload_end, waiting};
 use bench_memory::memory::{keep_earlier, load_data};
 use bench_memory::pages::tell_uploaded;
-use bench_output::{min, say, say_count, tell, tell_all};
+use bench_output::{Output, min, say, say_count, tell, tell_all};
 use bench_script::fields::{Parsed, fault, first, is, number, rest};
 use bench_script::image::after_data;
 use bench_wording::meaning::{longest_data, longest_read};
 use rules::requests::Request;
+use std::fs::Files;
 use upload_ends::UploadEnd;
 
 // An upload so far, and whether each step was OK.
@@ -19,12 +20,13 @@ struct Sent {
 }
 
 // The board tells its S, and the image fits: nothing is written before that.
-fn begin(d: Bench, n: usize, memory: &mut [u8]) -> Sent {
+fn begin(output: &mut Output, d: Bench, n: usize, memory: &mut [u8]) -> Sent {
     let asked = command(d, 0x03, 0, false);
-    let done = request(d, Request::Plain(0x03), asked, 0, 0, memory);
+    let done = request(output, d, Request::Plain(0x03), asked, 0, 0, memory);
     let bench = done.bench;
     if done.result.status != 0 {
         say(
+            output,
             b"  ** upload not begun: the board did not tell its S, and nothing was written **
     do: see that the board answers, with: info; and upload again
 ",
@@ -34,6 +36,7 @@ fn begin(d: Bench, n: usize, memory: &mut [u8]) -> Sent {
     let size = done.result.value;
     if size < n {
         tell_all(
+            output,
             b"  ** upload not begun: the image has % bytes, the working flash %, and nothing was written **
     do: upload an image that fits this board
 ",
@@ -58,21 +61,21 @@ fn is_told(from: usize, to: usize, all: usize, piece: usize) -> bool {
     all / 16 < piece || to == all || from / step != to / step
 }
 
-fn tell_progress(to: usize, all: usize, count: usize, held: usize) {
-    tell(b"  % of ", to);
-    say_count(all, b"byte");
-    say(b" accepted, ");
-    say_count(count, b"page");
-    say(b" erased, ");
-    say_count(held, b"byte");
-    say(b" waiting\n");
+fn tell_progress(output: &mut Output, to: usize, all: usize, count: usize, held: usize) {
+    tell(output, b"  % of ", to);
+    say_count(output, all, b"byte");
+    say(output, b" accepted, ");
+    say_count(output, count, b"page");
+    say(output, b" erased, ");
+    say_count(output, held, b"byte");
+    say(output, b" waiting\n");
 }
 
 // How far an accepted frame has brought the upload.
-fn progress(s: Sent, from: usize, to: usize, all: usize, piece: usize) {
+fn progress(output: &mut Output, s: Sent, from: usize, to: usize, all: usize, piece: usize) {
     if s.fine && is_told(from, to, all, piece) {
         let u = s.bench.state.upload;
-        tell_progress(to, all, u.count, u.held);
+        tell_progress(output, to, all, u.count, u.held);
     }
 }
 
@@ -85,19 +88,34 @@ fn piece_end(at: usize, piece: usize, all: usize) -> usize {
 }
 
 // One frame of the upload.
-fn send_piece(d: Bench, verbose: bool, at: usize, end: usize, memory: &mut [u8]) -> Sent {
+fn send_piece(
+    output: &mut Output,
+    d: Bench,
+    verbose: bool,
+    at: usize,
+    end: usize,
+    memory: &mut [u8],
+) -> Sent {
     let asked = command(d, 0x06, 0, verbose);
-    let done = request(d, Request::Write { address: at }, asked, at, end, memory);
+    let done = request(
+        output,
+        d,
+        Request::Write { address: at },
+        asked,
+        at,
+        end,
+        memory,
+    );
     let bench = done.bench;
     let fine = done.result.status == 0;
     if !fine {
-        tell(b"  the upload stopped at address %\n", at);
+        tell(output, b"  the upload stopped at address %\n", at);
     }
     Sent { bench, fine }
 }
 
 // All frames.
-fn send_all(d: Bench, piece: usize, all: usize, memory: &mut [u8]) -> Sent {
+fn send_all(output: &mut Output, d: Bench, piece: usize, all: usize, memory: &mut [u8]) -> Sent {
     let mut s = Sent {
         bench: d,
         fine: true,
@@ -111,8 +129,8 @@ fn send_all(d: Bench, piece: usize, all: usize, memory: &mut [u8]) -> Sent {
             return s;
         }
         let end = piece_end(at, piece, all);
-        s = send_piece(s.bench, verbose, at, end, memory);
-        progress(s, at, end, all, piece);
+        s = send_piece(output, s.bench, verbose, at, end, memory);
+        progress(output, s, at, end, all, piece);
         at = end;
     }
     s
@@ -126,17 +144,18 @@ fn most_read(d: Bench) -> usize {
 }
 
 // One read, compared with what was sent.
-fn read_piece(d: Bench, at: usize, end: usize, memory: &mut [u8]) -> Sent {
+fn read_piece(output: &mut Output, d: Bench, at: usize, end: usize, memory: &mut [u8]) -> Sent {
     let length = if end < at { 0 } else { end - at };
     let asked = command(d, 0x08, length, false);
     let r = Request::Read {
         address: at,
         length,
     };
-    let done = request(d, r, asked, 0, 0, memory);
+    let done = request(output, d, r, asked, 0, 0, memory);
     let bench = done.bench;
     if done.result.status != 0 {
         tell(
+            output,
             b"  ** read back: the bytes from address % on could not be read **\n",
             at,
         );
@@ -145,6 +164,7 @@ fn read_piece(d: Bench, at: usize, end: usize, memory: &mut [u8]) -> Sent {
     let fine = is_image(done.reply, done.result, at, end, memory);
     if !fine {
         tell(
+            output,
             b"  ** read back: the bytes from address % on are not as sent **\n",
             at,
         );
@@ -153,7 +173,7 @@ fn read_piece(d: Bench, at: usize, end: usize, memory: &mut [u8]) -> Sent {
 }
 
 // The whole image, read back.
-fn read_all(d: Bench, all: usize, memory: &mut [u8]) -> Sent {
+fn read_all(output: &mut Output, d: Bench, all: usize, memory: &mut [u8]) -> Sent {
     let most = most_read(d);
     let mut s = Sent {
         bench: d,
@@ -167,42 +187,42 @@ fn read_all(d: Bench, all: usize, memory: &mut [u8]) -> Sent {
             return s;
         }
         let end = piece_end(at, most, all);
-        s = read_piece(s.bench, at, end, memory);
+        s = read_piece(output, s.bench, at, end, memory);
         at = end;
     }
     s
 }
 
 // Finalize, and read back.
-fn finish(d: Bench, all: usize, memory: &mut [u8]) -> Sent {
-    say(b"  finalize\n");
+fn finish(output: &mut Output, d: Bench, all: usize, memory: &mut [u8]) -> Sent {
+    say(output, b"  finalize\n");
     let asked = command(d, 0x07, 0, true);
-    let done = request(d, Request::Plain(0x07), asked, 0, 0, memory);
+    let done = request(output, d, Request::Plain(0x07), asked, 0, 0, memory);
     let bench = done.bench;
     if done.result.status != 0 {
         return Sent { bench, fine: false };
     }
-    read_all(bench, all, memory)
+    read_all(output, bench, all, memory)
 }
 
 // What follows the frames, if each was accepted.
-fn finish_sent(s: Sent, short: bool, all: usize, memory: &mut [u8]) -> Sent {
+fn finish_sent(output: &mut Output, s: Sent, short: bool, all: usize, memory: &mut [u8]) -> Sent {
     let d = s.bench;
     if !s.fine {
         return s;
     }
     if !short {
-        tell_waiting_after(true, waiting(d));
+        tell_waiting_after(output, true, waiting(d));
     }
-    finish(d, all, memory)
+    finish(output, d, all, memory)
 }
 
-fn tell_done(n: usize, count: usize) {
-    say(b"  read back: ");
-    say_count(n, b"byte");
-    say(b" as sent\n  upload done: ");
-    say_count(count, b"page");
-    say(b" erased\n");
+fn tell_done(output: &mut Output, n: usize, count: usize) {
+    say(output, b"  read back: ");
+    say_count(output, n, b"byte");
+    say(output, b" as sent\n  upload done: ");
+    say_count(output, count, b"page");
+    say(output, b" erased\n");
 }
 
 fn is_whole(end: UploadEnd) -> bool {
@@ -214,49 +234,56 @@ fn is_whole(end: UploadEnd) -> bool {
 }
 
 // How the upload ended: done, or broken off with what the flash holds then.
-fn end_upload(s: Sent, n: usize, memory: &[u8]) -> Bench {
+fn end_upload(output: &mut Output, s: Sent, n: usize, memory: &[u8]) -> Bench {
     let d = s.bench;
     let end = upload_end(d, n, memory);
     if s.fine && is_whole(end) {
-        tell_done(n, d.state.upload.count);
+        tell_done(output, n, d.state.upload.count);
         return d;
     }
-    tell_broken_off(end);
+    tell_broken_off(output, end);
     if let UploadEnd::Partly = end {
-        tell_uploaded(d.profile, memory);
+        tell_uploaded(output, d.profile, memory);
     }
-    tell_held(waiting(d));
+    tell_held(output, waiting(d));
     d.failing()
 }
 
 // All frames, and the flash before the first of them.
-fn send_image(d: Bench, piece: usize, n: usize, memory: &mut [u8]) -> Sent {
+fn send_image(output: &mut Output, d: Bench, piece: usize, n: usize, memory: &mut [u8]) -> Sent {
     keep_earlier(memory);
-    send_all(d, piece, n, memory)
+    send_all(output, d, piece, n, memory)
 }
 
-fn upload_begun(d: Bench, piece: usize, n: usize, memory: &mut [u8]) -> Bench {
-    let s = send_image(d, piece, n, memory);
-    let done = finish_sent(s, is_short(n, piece), n, memory);
-    end_upload(done, n, memory)
+fn upload_begun(output: &mut Output, d: Bench, piece: usize, n: usize, memory: &mut [u8]) -> Bench {
+    let s = send_image(output, d, piece, n, memory);
+    let done = finish_sent(output, s, is_short(n, piece), n, memory);
+    end_upload(output, done, n, memory)
 }
 
-fn upload(d: Bench, piece: usize, n: usize, memory: &mut [u8]) -> Bench {
-    let begun = begin(d, n, memory);
+fn upload(output: &mut Output, d: Bench, piece: usize, n: usize, memory: &mut [u8]) -> Bench {
+    let begun = begin(output, d, n, memory);
     let ready = begun.bench;
     if !begun.fine {
         return ready.failing();
     }
-    upload_begun(ready, piece, n, memory)
+    upload_begun(output, ready, piece, n, memory)
 }
 
 // The length of the pieces: as much as a write to this board carries.
-fn pieces(d: Bench, s: &[u8]) -> Parsed {
+fn pieces(output: &mut Output, d: Bench, s: &[u8]) -> Parsed {
     let bus = d.bus();
     if is(first(s), b"frames") {
-        return number(b"frames", rest(s), 1, longest_data(bus, d.profile.longest));
+        return number(
+            output,
+            b"frames",
+            rest(s),
+            1,
+            longest_data(bus, d.profile.longest),
+        );
     }
     fault(
+        output,
         b"upload",
         first(s),
         b": the word frames and a number follow the bytes\n",
@@ -264,38 +291,49 @@ fn pieces(d: Bench, s: &[u8]) -> Parsed {
     )
 }
 
-fn wrong(d: Bench, got: Parsed) -> Bench {
+fn wrong(output: &mut Output, d: Bench, got: Parsed) -> Bench {
     d.refused_data(
+        output,
         got,
         b"upload and then HEX, fill BYTE COUNT or file NAME, then frames N: at least one byte, N of them in a frame",
     )
 }
 
 // An image without bytes.
-fn no_bytes(d: Bench) -> Bench {
-    wrong(
-        d,
-        fault(b"upload", b"", b": an image has at least one byte\n", 0),
-    )
+fn no_bytes(output: &mut Output, d: Bench) -> Bench {
+    let got = fault(
+        output,
+        b"upload",
+        b"",
+        b": an image has at least one byte\n",
+        0,
+    );
+    wrong(output, d, got)
 }
 
 // An upload of the first n bytes of the image; `frames N` follows them on the line.
-fn upload_loaded(d: Bench, n: usize, more: &[u8], memory: &mut [u8]) -> Bench {
-    let length = pieces(d, more);
+fn upload_loaded(output: &mut Output, d: Bench, n: usize, more: &[u8], memory: &mut [u8]) -> Bench {
+    let length = pieces(output, d, more);
     let Parsed::Value(piece) = length else {
-        return wrong(d, length);
+        return wrong(output, d, length);
     };
     if n == 0 {
-        return no_bytes(d);
+        return no_bytes(output, d);
     }
-    upload(d, piece, n, memory)
+    upload(output, d, piece, n, memory)
 }
 
 // What follows `upload`: `DATA frames N`
-pub fn run_line(d: Bench, s: &[u8], memory: &mut [u8]) -> Bench {
-    let got = load_data(s, memory);
+pub fn run_line(
+    output: &mut Output,
+    files: &impl Files,
+    d: Bench,
+    s: &[u8],
+    memory: &mut [u8],
+) -> Bench {
+    let got = load_data(output, files, s, memory);
     let Parsed::Value(n) = got else {
-        return wrong(d, got);
+        return wrong(output, d, got);
     };
-    upload_loaded(d, n, after_data(s), memory)
+    upload_loaded(output, d, n, after_data(s), memory)
 }

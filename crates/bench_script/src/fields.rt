@@ -1,7 +1,7 @@
 // A line's fields, separated by blanks: words, numbers and bytes. What is wrong with one is said here, with its limit.
 ghost use Rattle.std.specs.Prelude.{◌≤◌, length};
 
-use bench_output::{as_usize, find, min, say, say_word, tell};
+use bench_output::{Output, as_usize, find, min, say, say_word, tell};
 
 #[derive(Clone, Copy)]
 pub enum Parsed {
@@ -98,14 +98,14 @@ pub fn is(word: &[u8], name: &[u8]) -> bool {
 }
 
 // Says what is wrong: the field's name, the word that stands there, and the reason, in which `%` is the limit.
-pub fn fault(name: &[u8], word: &[u8], reason: &[u8], limit: usize) -> Parsed {
-    say(b"  wrong: ");
-    say(name);
+pub fn fault(output: &mut Output, name: &[u8], word: &[u8], reason: &[u8], limit: usize) -> Parsed {
+    say(output, b"  wrong: ");
+    say(output, name);
     if word.len() != 0 {
-        say(b" ");
-        say_word(word);
+        say(output, b" ");
+        say_word(output, word);
     }
-    tell(reason, limit);
+    tell(output, reason, limit);
     Parsed::Wrong
 }
 
@@ -180,22 +180,22 @@ fn value_of(s: &[u8]) -> Parsed {
 }
 
 // A number from `least` to `most`, and nothing behind it. From a million on it counts as a million.
-pub fn number(name: &[u8], s: &[u8], least: usize, most: usize) -> Parsed {
-    if !is_end(rest(s)) {
+pub fn number(output: &mut Output, name: &[u8], s: &[u8], least: usize, most: usize) -> Parsed {
+    if !is_end(output, rest(s)) {
         return Parsed::Wrong;
     }
     if s.len() == 0 {
-        return fault(name, s, b": the number is missing\n", 0);
+        return fault(output, name, s, b": the number is missing\n", 0);
     }
     let value = value_of(s);
     let Parsed::Value(n) = value else {
-        return fault(name, s, b": not a number\n", 0);
+        return fault(output, name, s, b": not a number\n", 0);
     };
     if n < least {
-        return fault(name, s, b": at least %\n", least);
+        return fault(output, name, s, b": at least %\n", least);
     }
     if most < n {
-        return fault(name, s, b": at most % here\n", most);
+        return fault(output, name, s, b": at most % here\n", most);
     }
     value
 }
@@ -226,15 +226,21 @@ fn pair_of(high: u8, low: u8) -> Pair {
     Pair::Byte(digit(high) % 16 * 16 + digit(low) % 16)
 }
 
-fn pair_fault(name: &[u8], s: &[u8], pair: Pair) -> Parsed {
+fn pair_fault(output: &mut Output, name: &[u8], s: &[u8], pair: Pair) -> Parsed {
     match pair {
-        Pair::Half => fault(name, s, b": an odd number of hexadecimal digits\n", 0),
-        _ => fault(name, s, b": not hexadecimal digits\n", 0),
+        Pair::Half => fault(
+            output,
+            name,
+            s,
+            b": an odd number of hexadecimal digits\n",
+            0,
+        ),
+        _ => fault(output, name, s, b": not hexadecimal digits\n", 0),
     }
 }
 
 // Bytes as pairs of digits, with blanks between them or not. How many there are; they stand at the start of the output.
-fn pairs(name: &[u8], s: &[u8], out: &mut [u8]) -> Parsed {
+fn pairs(output: &mut Output, name: &[u8], s: &[u8], out: &mut [u8]) -> Parsed {
     let mut i = 0;
     let mut k = 0;
     while i < s.len() {
@@ -242,14 +248,14 @@ fn pairs(name: &[u8], s: &[u8], out: &mut [u8]) -> Parsed {
             i += 1;
         } else {
             if s.len() - i < 2 {
-                return pair_fault(name, s, pair_of(s[i], b' '));
+                return pair_fault(output, name, s, pair_of(s[i], b' '));
             }
             let pair = pair_of(s[i], s[i + 1]);
             let Pair::Byte(b) = pair else {
-                return pair_fault(name, s, pair);
+                return pair_fault(output, name, s, pair);
             };
             if out.len() <= k {
-                return fault(name, s, b": at most % bytes here\n", k);
+                return fault(output, name, s, b": at most % bytes here\n", k);
             }
             out[k] = b;
             k += 1;
@@ -260,31 +266,31 @@ fn pairs(name: &[u8], s: &[u8], out: &mut [u8]) -> Parsed {
 }
 
 // The same, perhaps behind `0x`.
-pub fn hex(name: &[u8], s: &[u8], out: &mut [u8]) -> Parsed {
-    pairs(name, without_prefix(s), out)
+pub fn hex(output: &mut Output, name: &[u8], s: &[u8], out: &mut [u8]) -> Parsed {
+    pairs(output, name, without_prefix(s), out)
 }
 
 // One byte as a pair of digits, and nothing behind it.
-pub fn hex_byte(name: &[u8], s: &[u8]) -> Parsed {
-    if !is_end(rest(s)) {
+pub fn hex_byte(output: &mut Output, name: &[u8], s: &[u8]) -> Parsed {
+    if !is_end(output, rest(s)) {
         return Parsed::Wrong;
     }
     let d = without_prefix(s);
     if d.len() != 2 {
-        return fault(name, s, b": a byte is two hexadecimal digits\n", 0);
+        return fault(output, name, s, b": a byte is two hexadecimal digits\n", 0);
     }
     let pair = pair_of(d[0], d[1]);
     let Pair::Byte(b) = pair else {
-        return pair_fault(name, s, pair);
+        return pair_fault(output, name, s, pair);
     };
     Parsed::Value(as_usize(b))
 }
 
 // Whether nothing follows; what does is said.
-pub fn is_end(s: &[u8]) -> bool {
+pub fn is_end(output: &mut Output, s: &[u8]) -> bool {
     if s.len() == 0 {
         return true;
     }
-    fault(b"the word", first(s), b" is one too many\n", 0);
+    fault(output, b"the word", first(s), b" is one too many\n", 0);
     false
 }

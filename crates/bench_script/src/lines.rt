@@ -1,4 +1,5 @@
 // The lines of a script, read one by one.
+use std::io;
 
 #[derive(Clone, Copy)]
 pub enum Line {
@@ -14,10 +15,10 @@ enum Read {
     End,
 }
 
-fn read_byte(fd: i32) -> Read {
+fn read_byte(input: &mut impl io::Read) -> io::Result<Read> {
     let mut b = [0u8; 1];
-    let got = libc::read(fd, &mut b);
-    if got < 1 { Read::End } else { Read::Byte(b[0]) }
+    let got = input.read(&mut b)?;
+    Ok(if got < 1 { Read::End } else { Read::Byte(b[0]) })
 }
 
 // A line with n bytes kept and others lost.
@@ -26,18 +27,18 @@ fn whole(n: usize, lost: bool) -> Line {
 }
 
 // The next line. The last one may lack its line feed.
-pub fn read_line(fd: i32, line: &mut [u8]) -> Line {
+pub fn read_line(input: &mut impl io::Read, line: &mut [u8]) -> io::Result<Line> {
     let mut n = 0;
     let mut lost = false;
     let mut turns = u64::MAX;
     while 0 < turns {
         turns -= 1;
-        let got = read_byte(fd);
+        let got = read_byte(input)?;
         let Read::Byte(b) = got else {
-            return if n == 0 { Line::End } else { whole(n, lost) };
+            return Ok(if n == 0 { Line::End } else { whole(n, lost) });
         };
         if b == b'\n' {
-            return whole(n, lost);
+            return Ok(whole(n, lost));
         }
         if n < line.len() {
             line[n] = b;
@@ -46,7 +47,7 @@ pub fn read_line(fd: i32, line: &mut [u8]) -> Line {
             lost = true;
         }
     }
-    Line::End
+    Ok(Line::End)
 }
 
 fn cleaned(b: u8) -> u8 {

@@ -7,6 +7,7 @@ use bench_exchange::bench::{Bench, default_profile};
 use bench_exchange::requests::lost_with_board;
 use bench_memory::memory::restart_map;
 use bench_memory::pages::page_size;
+use bench_output::Output;
 use bench_script::fields::{Parsed, fault, first, hex, is, number, rest, second};
 use profile::Profile;
 use rules::kinds::Bus;
@@ -85,14 +86,20 @@ fn right(p: Profile) -> Described {
     }
 }
 
-fn unknown(p: Profile, name: &[u8]) -> Described {
-    fault(b"board", name, b": a board has nothing of that name\n", 0);
+fn unknown(output: &mut Output, p: Profile, name: &[u8]) -> Described {
+    fault(
+        output,
+        b"board",
+        name,
+        b": a board has nothing of that name\n",
+        0,
+    );
     wrong(p)
 }
 
-fn with_serial(mut p: Profile, value: &[u8]) -> Described {
+fn with_serial(output: &mut Output, mut p: Profile, value: &[u8]) -> Described {
     let mut bytes = [0u8; 16];
-    let got = hex(b"serial", value, &mut bytes);
+    let got = hex(output, b"serial", value, &mut bytes);
     let Parsed::Value(n) = got else {
         return wrong(p);
     };
@@ -101,8 +108,8 @@ fn with_serial(mut p: Profile, value: &[u8]) -> Described {
     right(p)
 }
 
-fn with_longest(mut p: Profile, value: &[u8]) -> Described {
-    let got = number(b"M", value, 32, State::LARGEST_FRAME);
+fn with_longest(output: &mut Output, mut p: Profile, value: &[u8]) -> Described {
+    let got = number(output, b"M", value, 32, State::LARGEST_FRAME);
     let Parsed::Value(n) = got else {
         return wrong(p);
     };
@@ -111,45 +118,57 @@ fn with_longest(mut p: Profile, value: &[u8]) -> Described {
 }
 
 // The page, of which S and O so far are multiples.
-fn with_page(mut p: Profile, value: &[u8]) -> Described {
-    let got = number(b"page", value, 0, 1000000);
+fn with_page(output: &mut Output, mut p: Profile, value: &[u8]) -> Described {
+    let got = number(output, b"page", value, 0, 1000000);
     let Parsed::Value(n) = got else {
         return wrong(p);
     };
     if n != State::SMALLEST_PAGE && n != State::LARGEST_PAGE {
-        fault(b"page", value, b": 64 or 128\n", 0);
+        fault(output, b"page", value, b": 64 or 128\n", 0);
         return wrong(p);
     }
     p.page = n;
     let page = page_size(p);
     if p.size % page != 0 {
-        fault(b"page", value, b": S % is no multiple of it\n", p.size);
+        fault(
+            output,
+            b"page",
+            value,
+            b": S % is no multiple of it\n",
+            p.size,
+        );
         return wrong(p);
     }
     if p.offset % page != 0 {
-        fault(b"page", value, b": O % is no multiple of it\n", p.offset);
+        fault(
+            output,
+            b"page",
+            value,
+            b": O % is no multiple of it\n",
+            p.offset,
+        );
         return wrong(p);
     }
     right(p)
 }
 
 // S or O: a number of whole pages.
-fn paged(name: &[u8], value: &[u8], least: usize, page: usize) -> Parsed
+fn paged(output: &mut Output, name: &[u8], value: &[u8], least: usize, page: usize) -> Parsed
     requires { 0 < page }
 {
-    let got = number(name, value, least, State::LARGEST_FLASH);
+    let got = number(output, name, value, least, State::LARGEST_FLASH);
     let Parsed::Value(n) = got else {
         return got;
     };
     if n % page != 0 {
-        return fault(name, value, b": a multiple of %\n", page);
+        return fault(output, name, value, b": a multiple of %\n", page);
     }
     got
 }
 
-fn with_size(mut p: Profile, value: &[u8]) -> Described {
+fn with_size(output: &mut Output, mut p: Profile, value: &[u8]) -> Described {
     let page = page_size(p);
-    let got = paged(b"S", value, page, page);
+    let got = paged(output, b"S", value, page, page);
     let Parsed::Value(n) = got else {
         return wrong(p);
     };
@@ -157,8 +176,8 @@ fn with_size(mut p: Profile, value: &[u8]) -> Described {
     right(p)
 }
 
-fn with_offset(mut p: Profile, value: &[u8]) -> Described {
-    let got = paged(b"O", value, 0, page_size(p));
+fn with_offset(output: &mut Output, mut p: Profile, value: &[u8]) -> Described {
+    let got = paged(output, b"O", value, 0, page_size(p));
     let Parsed::Value(n) = got else {
         return wrong(p);
     };
@@ -175,8 +194,14 @@ fn least_byte(field: ByteField) -> usize {
 }
 
 // Type, compatible and actual revision, bootloader version.
-fn with_byte(mut p: Profile, field: ByteField, name: &[u8], value: &[u8]) -> Described {
-    let byte = number(name, value, least_byte(field), 255);
+fn with_byte(
+    output: &mut Output,
+    mut p: Profile,
+    field: ByteField,
+    name: &[u8],
+    value: &[u8],
+) -> Described {
+    let byte = number(output, name, value, least_byte(field), 255);
     let Parsed::Value(n) = byte else {
         return wrong(p);
     };
@@ -191,16 +216,16 @@ fn with_byte(mut p: Profile, field: ByteField, name: &[u8], value: &[u8]) -> Des
 }
 
 // One name with its value.
-fn with(p: Profile, name: &[u8], value: &[u8]) -> Described {
+fn with(output: &mut Output, p: Profile, name: &[u8], value: &[u8]) -> Described {
     let field = field_named(name);
     match field {
-        Field::Longest => with_longest(p, value),
-        Field::Page => with_page(p, value),
-        Field::Size => with_size(p, value),
-        Field::Offset => with_offset(p, value),
-        Field::Byte(f) => with_byte(p, f, name, value),
-        Field::Serial => with_serial(p, value),
-        Field::Unknown => unknown(p, name),
+        Field::Longest => with_longest(output, p, value),
+        Field::Page => with_page(output, p, value),
+        Field::Size => with_size(output, p, value),
+        Field::Offset => with_offset(output, p, value),
+        Field::Byte(f) => with_byte(output, p, f, name, value),
+        Field::Serial => with_serial(output, p, value),
+        Field::Unknown => unknown(output, p, name),
     }
 }
 
@@ -221,7 +246,7 @@ fn field_after(s: &[u8], at: usize) -> usize {
 }
 
 // All names with their values.
-fn with_all(p: Profile, s: &[u8]) -> Described {
+fn with_all(output: &mut Output, p: Profile, s: &[u8]) -> Described {
     let mut d = right(p);
     let mut at = 0;
     let mut turns = 100usize;
@@ -231,37 +256,38 @@ fn with_all(p: Profile, s: &[u8]) -> Described {
             return d;
         }
         let value = field_after(s, at);
-        d = with(d.profile, field_at(s, at), field_at(s, value));
+        d = with(output, d.profile, field_at(s, at), field_at(s, value));
         at = field_after(s, value);
     }
     d
 }
 
 // The bus in front, then the rest.
-fn on_bus(s: &[u8]) -> Described {
+fn on_bus(output: &mut Output, s: &[u8]) -> Described {
     if is(first(s), b"i2c") {
-        return with_all(default_profile(Bus::I2c), rest(s));
+        return with_all(output, default_profile(Bus::I2c), rest(s));
     }
     if is(first(s), b"rs485") {
-        return with_all(default_profile(Bus::Rs485), rest(s));
+        return with_all(output, default_profile(Bus::Rs485), rest(s));
     }
-    fault(b"board", first(s), b": i2c or rs485 follows\n", 0);
+    fault(output, b"board", first(s), b": i2c or rs485 follows\n", 0);
     wrong(default_profile(Bus::I2c))
 }
 
 // `board BUS NAME VALUE ..`
-pub(crate) fn set_board(d: Bench, s: &[u8], memory: &mut [u8]) -> Bench {
-    let got = on_bus(s);
+pub(crate) fn set_board(output: &mut Output, d: Bench, s: &[u8], memory: &mut [u8]) -> Bench {
+    let got = on_bus(output, s);
     if !got.fine {
         return d.refused(
+            output,
             b"board i2c or board rs485, then any of M n, page n, S n, O n, type n, compatible n, actual n, bootloader n, serial HEX",
         );
     }
     let p = got.profile;
     let fresh = d.with_board(p);
     let lost = lost_with_board(d, fresh, memory);
-    show_profile(p);
-    tell_lost(lost);
+    show_profile(output, p);
+    tell_lost(output, lost);
     restart_map(memory);
     fresh.losing(lost)
 }

@@ -7,67 +7,75 @@ use bench_exchange::bench::Bench;
 use bench_exchange::requests::waiting;
 use bench_memory::memory::PAGES;
 use bench_memory::pages::{page_size, times};
-use bench_output::{as_usize, min, say, say_address, say_count, tell, tell_all};
+use bench_output::{Output, as_usize, min, say, say_address, say_count, tell, tell_all};
 use bench_script::fields::is_end;
 use bench_words::ShowWord;
 use profile::Profile;
 use rules::kinds::{Address, Bus};
 
-fn tell_bus(bus: Bus) {
+fn tell_bus(output: &mut Output, bus: Bus) {
     match bus {
-        Bus::I2c => say(b"  a fresh board on I2C: "),
-        Bus::Rs485 => say(b"  a fresh board on RS485: "),
+        Bus::I2c => say(output, b"  a fresh board on I2C: "),
+        Bus::Rs485 => say(output, b"  a fresh board on RS485: "),
     }
 }
 
-pub(crate) fn show_profile(p: Profile) {
+pub(crate) fn show_profile(output: &mut Output, p: Profile) {
     let bus = p.bus;
-    tell_bus(bus);
+    tell_bus(output, bus);
     tell_all(
+        output,
         b"M %, page %, S %, O %, type %\n",
         [p.longest, p.page, p.size, p.offset, as_usize(p.hardware)],
     );
 }
 
-fn tell_address(own: Address) {
+fn tell_address(output: &mut Output, own: Address) {
     match own {
-        Address::DefaultRange => say(b"  the board listens to 8 to 15, the default range"),
-        Address::Own(a) => tell(b"  the board listens to %", as_usize(a)),
+        Address::DefaultRange => say(output, b"  the board listens to 8 to 15, the default range"),
+        Address::Own(a) => tell(output, b"  the board listens to %", as_usize(a)),
     }
 }
 
 // A running application: whether it answers.
-fn tell_application(answers: bool) {
+fn tell_application(output: &mut Output, answers: bool) {
     if answers {
-        say(b"; the application runs, and answers the version request\n");
+        say(
+            output,
+            b"; the application runs, and answers the version request\n",
+        );
     } else {
-        say(b"; the application runs, and is silent\n");
+        say(output, b"; the application runs, and is silent\n");
     }
 }
 
 // A running bootloader, and whether the application will answer; that it is silent is not said.
-fn tell_bootloader(answers: bool) {
+fn tell_bootloader(output: &mut Output, answers: bool) {
     if answers {
-        say(b"; the bootloader runs; the application, once started, answers the version request\n");
+        say(
+            output,
+            b"; the bootloader runs; the application, once started, answers the version request\n",
+        );
     } else {
-        say(b"; the bootloader runs\n");
+        say(output, b"; the bootloader runs\n");
     }
 }
 
-fn tell_running(running: bool, answers: bool) {
+fn tell_running(output: &mut Output, running: bool, answers: bool) {
     if running {
-        tell_application(answers);
+        tell_application(output, answers);
     } else {
-        tell_bootloader(answers);
+        tell_bootloader(output, answers);
     }
 }
 
-fn show_state(d: Bench) {
+fn show_state(output: &mut Output, d: Bench) {
     let s = d.state;
     let own = s.address;
-    tell_address(own);
-    tell_running(s.running, d.answers);
+    tell_address(output, own);
+    tell_running(output, s.running, d.answers);
     tell_all(
+        output,
         b"  next address %, waiting bytes %, erase count %, last reply % bytes\n",
         [s.upload.next, s.upload.held, s.upload.count, s.last.len, 0],
     );
@@ -104,55 +112,58 @@ fn page_start(size: usize, page: usize) -> usize
 }
 
 // What stands before a page's mark: a new line with the address every 32 pages.
-fn margin(size: usize, page: usize)
+fn margin(output: &mut Output, size: usize, page: usize)
     requires { size ≤ largest_page }
 {
     if page % 32 != 0 {
         return;
     }
     if page != 0 {
-        say(b"\n");
+        say(output, b"\n");
     }
-    say(b"  ");
-    say_address(page_start(size, page));
-    say(b"  ");
+    say(output, b"  ");
+    say_address(output, page_start(size, page));
+    say(output, b"  ");
 }
 
-fn show_page(size: usize, page: usize, waiting: usize, memory: &[u8])
+fn show_page(output: &mut Output, size: usize, page: usize, waiting: usize, memory: &[u8])
     requires { size ≤ largest_page }
 {
-    margin(size, page);
-    say(&[mark(page, waiting, memory)]);
+    margin(output, size, page);
+    say(output, &[mark(page, waiting, memory)]);
 }
 
-fn show_pages(size: usize, pages: usize, waiting: usize, memory: &[u8])
+fn show_pages(output: &mut Output, size: usize, pages: usize, waiting: usize, memory: &[u8])
     requires { size ≤ largest_page }
 {
     let mut page = 0;
     while page < pages {
-        show_page(size, page, waiting, memory);
+        show_page(output, size, page, waiting, memory);
         page += 1;
     }
 }
 
-fn show_map(d: Bench, memory: &[u8]) {
+fn show_map(output: &mut Output, d: Bench, memory: &[u8]) {
     let size = page_size(d.profile);
     tell(
+        output,
         b"  a mark for each page of % bytes: . untouched, 1 to 9 rewritten so often, + more often, w bytes wait\n",
         size,
     );
     let u = d.state.upload;
     show_pages(
+        output,
         size,
         min(d.profile.size / size, PAGES),
         waiting_page(size, u.held, u.next),
         memory,
     );
-    say(b"\n");
+    say(output, b"\n");
 }
 
-fn show_help() {
+fn show_help(output: &mut Output) {
     say(
+        output,
         b"  Numbers are decimal, or hexadecimal behind 0x; bytes, HEX and BYTE are hexadecimal digits. The first byte of a frame is byte 1.
   board i2c|rs485 [M n] [page 64|128] [S n] [O n] [type n] [compatible n] [actual n] [bootloader n] [serial HEX]
   flash fill BYTE | flash file NAME              the flash that the board is lent
@@ -174,35 +185,36 @@ fn show_help() {
 }
 
 // `state`, `map` or `help`.
-fn show(d: Bench, word: ShowWord, memory: &[u8]) {
+fn show(output: &mut Output, d: Bench, word: ShowWord, memory: &[u8]) {
     match word {
-        ShowWord::State => show_state(d),
-        ShowWord::Map => show_map(d, memory),
-        ShowWord::Help => show_help(),
+        ShowWord::State => show_state(output, d),
+        ShowWord::Map => show_map(output, d, memory),
+        ShowWord::Help => show_help(output),
     }
 }
 
 // A line that shows, after which nothing may follow.
-pub fn run_line(d: Bench, word: ShowWord, s: &[u8], memory: &[u8]) -> Bench {
-    if !is_end(s) {
-        return d.refused(b"nothing after this word");
+pub fn run_line(output: &mut Output, d: Bench, word: ShowWord, s: &[u8], memory: &[u8]) -> Bench {
+    if !is_end(output, s) {
+        return d.refused(output, b"nothing after this word");
     }
-    show(d, word, memory);
+    show(output, d, word, memory);
     d
 }
 
 // How often something happened that must not be missed.
-fn tell_times(before: &[u8], n: usize, thing: &[u8], after: &[u8]) {
+fn tell_times(output: &mut Output, before: &[u8], n: usize, thing: &[u8], after: &[u8]) {
     if 0 < n {
-        say(before);
-        say_count(n, thing);
-        say(after);
+        say(output, before);
+        say_count(output, n, thing);
+        say(output, after);
     }
 }
 
-fn tell_wrong(wrong: usize, lines: usize) {
+fn tell_wrong(output: &mut Output, wrong: usize, lines: usize) {
     if 0 < wrong {
         tell_all(
+            output,
             b"  ** lines that were not understood or not done: % of % **\n",
             [wrong, lines, 0, 0, 0],
         );
@@ -210,26 +222,28 @@ fn tell_wrong(wrong: usize, lines: usize) {
 }
 
 // Says at the end what still waits, what was lost, what got no reply, what failed, and how many lines were not understood.
-pub fn tell_end(d: Bench) {
+pub fn tell_end(output: &mut Output, d: Bench) {
     if status(d) == 0 {
         return;
     }
-    say(b"  the script ends\n");
-    tell_left_waiting(waiting(d));
+    say(output, b"  the script ends\n");
+    tell_left_waiting(output, waiting(d));
     tell_times(
+        output,
         b"  ** accepted bytes were lost ",
         d.losses,
         b"time",
         b" **\n",
     );
     tell_times(
+        output,
         b"  ** no reply, and yet no dead board: ",
         d.silences,
         b"time",
         b" **\n",
     );
-    tell_times(b"  ** ", d.failures, b"upload", b" failed **\n");
-    tell_wrong(d.wrong, d.lines);
+    tell_times(output, b"  ** ", d.failures, b"upload", b" failed **\n");
+    tell_wrong(output, d.wrong, d.lines);
 }
 
 // Whether an alarm stood that a script must not pass over: a failed upload, lost bytes, a silence, or bytes that wait at the end.
@@ -246,8 +260,8 @@ pub fn status(d: Bench) -> usize {
 }
 
 // Shows a line of the script, with what stands before it.
-pub fn line(before: &[u8], s: &[u8]) {
-    say(before);
-    say(s);
-    say(b"\n");
+pub fn line(output: &mut Output, before: &[u8], s: &[u8]) {
+    say(output, before);
+    say(output, s);
+    say(output, b"\n");
 }

@@ -1,16 +1,17 @@
 // What a number, a status and a silence mean, and what to do about them. docs/NUMBERS.md has all of them at length.
 use addressing::reserved;
 use alarms::ignored;
-use bench_output::{as_usize, say, say_piece, tell, tell_all};
+use bench_output::{Output, as_usize, say, say_piece, tell, tell_all};
 use frame_sizes::{shortest_reply, shortest_request};
 use numbers::{board_number, decoded_number, encoded_number};
 use rules::kinds::{Bus, Outcome, Reason, Verdict};
 use rules::requests::{Decoded, Encoded, Request};
 
 // A number with its meaning, and what to do about it. Piece n is number n's, up to 18.
-pub fn tell_number(n: usize) {
+pub fn tell_number(output: &mut Output, n: usize) {
     if n == 40 {
         say(
+            output,
             b"  number 40, the application runs; the board is not faulty
     do: reset-running, or reset, brings the bootloader back
 ",
@@ -18,6 +19,7 @@ pub fn tell_number(n: usize) {
         return;
     }
     say_piece(
+        output,
         n,
         b"  number 0, made\n|  number 1, nothing to send\n|  number 2, profile out of range
     do: correct the board line: M 32 to 256, page 64 or 128, S from one page and O from 0 to 65472 in steps of the page, type 1 to 255
@@ -42,9 +44,10 @@ pub fn tell_number(n: usize) {
 }
 
 // A status by its name. Piece n is status n's.
-pub fn tell_status(status: u8) {
-    tell(b"  status %, ", as_usize(status));
+pub fn tell_status(output: &mut Output, status: u8) {
+    tell(output, b"  status %, ", as_usize(status));
     say_piece(
+        output,
         as_usize(status),
         b"OK|COMMAND_FAILED: the board could not do it
     do: ask again|COMMAND_NOT_SUPPORTED: this board has no such command, or no serial
@@ -56,38 +59,48 @@ pub fn tell_status(status: u8) {
 }
 
 // The reserved addresses of a bus.
-fn tell_reserved(bus: Bus) {
+fn tell_reserved(output: &mut Output, bus: Bus) {
     match bus {
-        Bus::I2c => say(b"on I2C no board may have 0 to 7 or 120 to 127\n"),
-        Bus::Rs485 => say(b"on RS485 no board may have 0 or 248 to 255\n"),
+        Bus::I2c => say(output, b"on I2C no board may have 0 to 7 or 120 to 127\n"),
+        Bus::Rs485 => say(output, b"on RS485 no board may have 0 or 248 to 255\n"),
     }
 }
 
 // The addresses to give to boards. Those of the default range are allowed too, but other boards listen there.
-fn tell_choice(bus: Bus) {
+fn tell_choice(output: &mut Output, bus: Bus) {
     match bus {
-        Bus::I2c => say(b"choose 16 to 119"),
-        Bus::Rs485 => say(b"choose 1 to 7 or 16 to 247"),
+        Bus::I2c => say(output, b"choose 16 to 119"),
+        Bus::Rs485 => say(output, b"choose 1 to 7 or 16 to 247"),
     }
-    say(b"; boards without an address of their own listen to 8 to 15\n");
+    say(
+        output,
+        b"; boards without an address of their own listen to 8 to 15\n",
+    );
 }
 
 // Why the board refused a set address, and what to do.
-fn tell_address_refused(bus: Bus) {
-    say(b"    wrong: not two argument bytes, or a reserved address: ");
-    tell_reserved(bus);
-    say(b"    the board stays at its address\n    do: send address and type; ");
-    tell_choice(bus);
+fn tell_address_refused(output: &mut Output, bus: Bus) {
+    say(
+        output,
+        b"    wrong: not two argument bytes, or a reserved address: ",
+    );
+    tell_reserved(output, bus);
+    say(
+        output,
+        b"    the board stays at its address\n    do: send address and type; ",
+    );
+    tell_choice(output, bus);
 }
 
 // What to do about INVALID_ARGUMENTS to other commands. Piece 0 is a write's, piece 1 a read's, piece 2 any other's.
-fn tell_arguments_advice(code: usize) {
+fn tell_arguments_advice(output: &mut Output, code: usize) {
     let piece = match code {
         0x06 => 0,
         0x08 => 1,
         _ => 2,
     };
     say_piece(
+        output,
         piece,
         b"    do: a write goes to 0 or to the next address, and ends within S; one that was taken already is refused
 |    do: ask for bytes within S, and for no more than a reply holds
@@ -97,10 +110,10 @@ fn tell_arguments_advice(code: usize) {
 }
 
 // What INVALID_ARGUMENTS means, and what to do about it, by command.
-pub fn tell_refused_arguments(bus: Bus, code: usize) {
+pub fn tell_refused_arguments(output: &mut Output, bus: Bus, code: usize) {
     match code {
-        0x01 => tell_address_refused(bus),
-        _ => tell_arguments_advice(code),
+        0x01 => tell_address_refused(output, bus),
+        _ => tell_arguments_advice(output, code),
     }
 }
 
@@ -134,8 +147,9 @@ fn reason(v: Verdict, code: usize) -> usize {
 }
 
 // A silence that must not be taken for a dead board.
-fn tell_alarm(piece: usize) {
+fn tell_alarm(output: &mut Output, piece: usize) {
     say_piece(
+        output,
         piece,
         b"  ** no reply: the application runs, the board is alive **
 |  ** no reply: the frame is shorter than any request, the board is alive **
@@ -149,8 +163,9 @@ fn tell_alarm(piece: usize) {
 }
 
 // What to do about it.
-fn tell_advice(piece: usize) {
+fn tell_advice(output: &mut Output, piece: usize) {
     say_piece(
+        output,
         piece,
         b"    do: only reset brings the bootloader back
 |    do: send it whole, without a break
@@ -164,8 +179,9 @@ fn tell_advice(piece: usize) {
 }
 
 // What a technician looks for on the line after frames that RS485 drops. Piece n is number 14 + n's.
-pub fn say_look_for(piece: usize) {
+pub fn say_look_for(output: &mut Output, piece: usize) {
     say_piece(
+        output,
         piece,
         b"|a loose cable, or a break within the frame: a gap on the line cuts it in two
 |frames run into one another without a gap, a wrong bit rate, or frames longer than M
@@ -175,37 +191,40 @@ pub fn say_look_for(piece: usize) {
     );
 }
 
-fn tell_ignored(piece: usize) {
-    tell_alarm(piece);
-    tell_advice(piece);
+fn tell_ignored(output: &mut Output, piece: usize) {
+    tell_alarm(output, piece);
+    tell_advice(output, piece);
 }
 
 // The same for a frame that RS485 drops by a number of its own.
-fn tell_dropped(piece: usize) {
-    tell_alarm(piece);
-    say(b"    look for: ");
-    say_look_for(piece);
-    tell_advice(piece);
+fn tell_dropped(output: &mut Output, piece: usize) {
+    tell_alarm(output, piece);
+    say(output, b"    look for: ");
+    say_look_for(output, piece);
+    tell_advice(output, piece);
 }
 
 // A silence after something was done.
-fn tell_done(piece: usize) {
+fn tell_done(output: &mut Output, piece: usize) {
     match piece {
-        7 => say(b"  a general call goes to all boards: none replies\n"),
-        8 => say(b"  start has no reply\n"),
-        _ => say(b"  no reply\n"),
+        7 => say(
+            output,
+            b"  a general call goes to all boards: none replies\n",
+        ),
+        8 => say(output, b"  start has no reply\n"),
+        _ => say(output, b"  no reply\n"),
     }
 }
 
 // Why a call answers 1; whether that must not be missed.
-fn tell_silence(v: Verdict, code: usize) -> bool {
-    tell_number(1);
+fn tell_silence(output: &mut Output, v: Verdict, code: usize) -> bool {
+    tell_number(output, 1);
     let piece = reason(v, code);
     if ignored(v) || piece == 6 {
-        tell_ignored(piece);
+        tell_ignored(output, piece);
         return true;
     }
-    tell_done(piece);
+    tell_done(output, piece);
     false
 }
 
@@ -221,28 +240,29 @@ fn dropped(o: Outcome) -> usize {
 }
 
 // An answer by its number; a frame that RS485 drops is a silence too.
-fn tell_numbered(o: Outcome) {
-    tell_number(board_number(o) as usize);
+fn tell_numbered(output: &mut Output, o: Outcome) {
+    tell_number(output, board_number(o) as usize);
     let piece = dropped(o);
     if 0 < piece {
-        tell_dropped(piece);
+        tell_dropped(output, piece);
     }
 }
 
 // A board call that made no reply; whether that must not be missed.
-pub fn tell_answer(o: Outcome, v: Verdict, code: usize) -> bool {
+pub fn tell_answer(output: &mut Output, o: Outcome, v: Verdict, code: usize) -> bool {
     match o {
-        Outcome::Nothing => tell_silence(v, code),
+        Outcome::Nothing => tell_silence(output, v, code),
         _ => {
-            tell_numbered(o);
+            tell_numbered(output, o);
             true
         }
     }
 }
 
 // An I²C read with nothing to give.
-pub fn tell_no_read() {
+pub fn tell_no_read(output: &mut Output) {
     say(
+        output,
         b"  number 1, nothing to send
   ** nothing to read, and that is no dead board **
     it may be: no last reply, another board's address, address 0, a running application, or RS485
@@ -252,26 +272,26 @@ pub fn tell_no_read() {
 }
 
 // A limit that a request breaks: whether it does. The text has a `%` for the number, and one for the limit.
-fn is_over(text: &[u8], n: usize, most: usize) -> bool {
+fn is_over(output: &mut Output, text: &[u8], n: usize, most: usize) -> bool {
     if n <= most {
         return false;
     }
-    tell_all(text, [n, most, 0, 0, 0]);
+    tell_all(output, text, [n, most, 0, 0, 0]);
     true
 }
 
 // A new address that is reserved: whether it is.
-fn is_reserved(bus: Bus, a: usize) -> bool {
+fn is_reserved(output: &mut Output, bus: Bus, a: usize) -> bool {
     if !reserved(bus, a) {
         return false;
     }
-    tell(b"    wrong: address % is reserved: ", a);
-    tell_reserved(bus);
+    tell(output, b"    wrong: address % is reserved: ", a);
+    tell_reserved(output, bus);
     if a == 0 {
-        say(b"    a board at 0 would hear general calls only\n");
+        say(output, b"    a board at 0 would hear general calls only\n");
     }
-    say(b"    do: ");
-    tell_choice(bus);
+    say(output, b"    do: ");
+    tell_choice(output, bus);
     true
 }
 
@@ -311,48 +331,75 @@ pub fn longest_read(bus: Bus, longest: usize) -> usize {
 }
 
 // Which argument of a request is out of its range.
-fn tell_argument(bus: Bus, longest: usize, r: Request, n: usize) -> bool {
+fn tell_argument(output: &mut Output, bus: Bus, longest: usize, r: Request, n: usize) -> bool {
     match r {
         Request::SetAddress { address, hardware } => {
-            is_reserved(bus, address)
+            is_reserved(output, bus, address)
                 || is_over(
+                    output,
                     b"    wrong: address %: at most % here\n",
                     address,
                     last_free_address(bus),
                 )
-                || is_over(b"    wrong: type %: at most %\n", hardware, 255)
+                || is_over(output, b"    wrong: type %: at most %\n", hardware, 255)
         }
         Request::Write { address } => {
-            is_over(b"    wrong: flash address %: at most %\n", address, 65535)
-                || is_over(
-                    b"    wrong: % data bytes: at most % here\n",
-                    n,
-                    longest_data(bus, longest),
-                )
+            is_over(
+                output,
+                b"    wrong: flash address %: at most %\n",
+                address,
+                65535,
+            ) || is_over(
+                output,
+                b"    wrong: % data bytes: at most % here\n",
+                n,
+                longest_data(bus, longest),
+            )
         }
         Request::Read { address, length } => {
-            is_over(b"    wrong: flash address %: at most %\n", address, 65535)
-                || is_over(
-                    b"    wrong: length %: at most % here\n",
-                    length,
-                    longest_read(bus, longest),
-                )
+            is_over(
+                output,
+                b"    wrong: flash address %: at most %\n",
+                address,
+                65535,
+            ) || is_over(
+                output,
+                b"    wrong: length %: at most % here\n",
+                length,
+                longest_read(bus, longest),
+            )
         }
         _ => false,
     }
 }
 
 // A request that the master did not make: sent to `to`, with n data bytes.
-pub fn tell_unmade(e: Encoded, bus: Bus, longest: usize, r: Request, to: usize, n: usize) {
-    tell_number(encoded_number(e) as usize);
+pub fn tell_unmade(
+    output: &mut Output,
+    e: Encoded,
+    bus: Bus,
+    longest: usize,
+    r: Request,
+    to: usize,
+    n: usize,
+) {
+    tell_number(output, encoded_number(e) as usize);
     if to == 0 {
-        say(b"    wrong: address 0 is all boards: a command goes to one of them\n");
+        say(
+            output,
+            b"    wrong: address 0 is all boards: a command goes to one of them\n",
+        );
     } else {
-        if !is_over(b"    wrong: to %: at most % here\n", to, last_address(bus)) {
-            tell_argument(bus, longest, r, n);
+        if !is_over(
+            output,
+            b"    wrong: to %: at most % here\n",
+            to,
+            last_address(bus),
+        ) {
+            tell_argument(output, bus, longest, r, n);
         }
     }
-    say(b"  nothing was sent\n");
+    say(output, b"  nothing was sent\n");
 }
 
 // What to do about a reply that was damaged, by bus and command: the board may have done what it was asked. On I²C it has kept the reply.
@@ -371,8 +418,9 @@ fn again(bus: Bus, code: usize) -> usize {
     }
 }
 
-fn tell_again(bus: Bus, code: usize) {
+fn tell_again(output: &mut Output, bus: Bus, code: usize) {
     say_piece(
+        output,
         again(bus, code),
         b"    do: read once more, with i2c-read: the board has kept the reply
 |    do: ask for the version at the new address, then at the old one: the board may have moved
@@ -385,14 +433,14 @@ fn tell_again(bus: Bus, code: usize) {
 }
 
 // A reply that the master cannot use.
-pub fn tell_undecoded(r: Decoded, bus: Bus, code: usize) {
+pub fn tell_undecoded(output: &mut Output, r: Decoded, bus: Bus, code: usize) {
     let n = decoded_number(r) as usize;
-    say(b"  the master:\n");
-    tell_number(n);
+    say(output, b"  the master:\n");
+    tell_number(output, n);
     if n == 7 {
-        say(b"    do: send a command that the master knows\n");
+        say(output, b"    do: send a command that the master knows\n");
     }
     if 8 <= n && n <= 11 {
-        tell_again(bus, code);
+        tell_again(output, bus, code);
     }
 }

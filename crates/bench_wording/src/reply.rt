@@ -1,6 +1,6 @@
 // The master's side of a reply: decoded, and said in words.
 use crate::meaning;
-use bench_output::{as_usize, say, say_bytes, tell, tell_all};
+use bench_output::{Output, as_usize, say, say_bytes, tell, tell_all};
 use numbers::version_number;
 use rules::kinds::Bus;
 use rules::requests::{Decoded, Version};
@@ -48,29 +48,32 @@ fn two_byte_number(high: u8, low: u8) -> usize {
 }
 
 // Says what a version counts as.
-fn tell_known(v: Version) {
+fn tell_known(output: &mut Output, v: Version) {
     match v {
         Version::Known { major, minor } => tell_all(
+            output,
             b", which counts as %.%\n",
             [as_usize(major), as_usize(minor), 0, 0, 0],
         ),
         _ => {
-            say(b"\n");
-            meaning::tell_number(version_number(v) as usize);
+            say(output, b"\n");
+            meaning::tell_number(output, version_number(v) as usize);
         }
     }
 }
 
-fn tell_version(major: u8, minor: u8) {
+fn tell_version(output: &mut Output, major: u8, minor: u8) {
     tell_all(
+        output,
         b": version %.%",
         [as_usize(major), as_usize(minor), 0, 0, 0],
     );
-    tell_known(version_rule::version(major, minor));
+    tell_known(output, version_rule::version(major, minor));
 }
 
-fn tell_info(s: &[u8]) {
+fn tell_info(output: &mut Output, s: &[u8]) {
     tell_all(
+        output,
         b": type %, compatible revision %, bootloader version %, working flash % bytes\n",
         [
             as_usize(one(s, 0)),
@@ -82,34 +85,34 @@ fn tell_info(s: &[u8]) {
     );
 }
 
-fn tell_bytes(s: &[u8]) {
+fn tell_bytes(output: &mut Output, s: &[u8]) {
     if 0 < s.len() {
-        say(b": ");
-        say_bytes(s);
+        say(output, b": ");
+        say_bytes(output, s);
     }
-    say(b"\n");
+    say(output, b"\n");
 }
 
 // The results of an OK.
-fn tell_results(code: usize, s: &[u8]) {
+fn tell_results(output: &mut Output, code: usize, s: &[u8]) {
     let n = two_byte_number(one(s, 0), one(s, 1));
     match code {
-        0x00 => tell_version(one(s, 0), one(s, 1)),
-        0x03 => tell_info(s),
-        0x07 => tell(b": erase count %\n", n),
-        0x09 => tell(b": actual revision %\n", as_usize(one(s, 0))),
-        0x0c => tell(b": longest frame M %\n", n),
-        _ => tell_bytes(s),
+        0x00 => tell_version(output, one(s, 0), one(s, 1)),
+        0x03 => tell_info(output, s),
+        0x07 => tell(output, b": erase count %\n", n),
+        0x09 => tell(output, b": actual revision %\n", as_usize(one(s, 0))),
+        0x0c => tell(output, b": longest frame M %\n", n),
+        _ => tell_bytes(output, s),
     }
 }
 
 // A decoded reply: status and results.
-fn tell_reply(bus: Bus, code: usize, status: u8, results: &[u8]) {
-    meaning::tell_status(status);
+fn tell_reply(output: &mut Output, bus: Bus, code: usize, status: u8, results: &[u8]) {
+    meaning::tell_status(output, status);
     match status {
-        0 => tell_results(code, results),
-        5 => meaning::tell_refused_arguments(bus, code),
-        _ => say(b"\n"),
+        0 => tell_results(output, code, results),
+        5 => meaning::tell_refused_arguments(output, bus, code),
+        _ => say(output, b"\n"),
     }
 }
 
@@ -133,26 +136,26 @@ pub fn part<'a>(reply: &'a [u8], start: usize, len: usize) -> &'a [u8] {
 }
 
 // A command that the decoder serves. The reply to another one is decoded as that to start, which needs no result bytes.
-fn known(bus: Bus, code: usize) -> usize {
+fn known(output: &mut Output, bus: Bus, code: usize) -> usize {
     if arguments::served(code) {
         return code;
     }
-    meaning::tell_undecoded(Decoded::NotServed, bus, code);
+    meaning::tell_undecoded(output, Decoded::NotServed, bus, code);
     0x05
 }
 
 // Decodes the reply to a command, and says what it means.
-pub fn decode_reply(asked: Asked, reply: &[u8]) -> RequestResult {
+pub fn decode_reply(output: &mut Output, asked: Asked, reply: &[u8]) -> RequestResult {
     let bus = asked.bus;
-    let code = known(bus, asked.code);
+    let code = known(output, bus, asked.code);
     let r = decoder::decode::decode(bus, code, as_usize(asked.address), asked.length, reply);
     let Decoded::Reply { status, start, len } = r else {
-        meaning::tell_undecoded(r, bus, code);
+        meaning::tell_undecoded(output, r, bus, code);
         return no_result();
     };
     let results = part(reply, start, len);
     if asked.verbose || status != 0 {
-        tell_reply(bus, code, status, results);
+        tell_reply(output, bus, code, status, results);
     }
     RequestResult {
         status: as_usize(status),

@@ -1,9 +1,7 @@
 // The lines of master calls: E, D, T, V and A.
 #![tactic(auto)]
 
-use case_setup::answers::{
-    UNTOUCHED, put_end, put_hex, put_letter, put_number, put_numbers, untouched,
-};
+use case_setup::answers::{Output, UNTOUCHED, untouched};
 use case_setup::fields::Fields;
 use case_setup::setup::{bus_of, byte};
 use numbers::{
@@ -31,16 +29,16 @@ fn request_of(code: usize, a: usize, b: usize) -> Request {
 }
 
 // The line of a call that writes a request of n bytes: E or A, number request bufferok
-fn put_request(letter: u8, number: u32, made: &[u8; 512], n: usize, lent: usize) {
-    put_letter(letter);
-    put_number(number as usize);
-    put_hex(first(made, n));
-    put_number(untouched(first(made, lent), n));
-    put_end();
+fn put_request(out: &mut Output, letter: u8, number: u32, made: &[u8; 512], n: usize, lent: usize) {
+    out.put_letter(letter);
+    out.put_number(number as usize);
+    out.put_hex(first(made, n));
+    out.put_number(untouched(first(made, lent), n));
+    out.put_end();
 }
 
 // E bus M code destination a b data
-fn encode(f: Fields, room: usize) {
+fn encode(out: &mut Output, f: Fields, room: usize) {
     let n = f.numbers;
     let data = f.first;
     let mut made = [UNTOUCHED; 512];
@@ -53,11 +51,11 @@ fn encode(f: Fields, room: usize) {
         first(&data, f.firstlen),
         &mut made[..lent],
     );
-    put_request(b'E', encoded_number(e), &made, encoded_length(e), lent);
+    put_request(out, b'E', encoded_number(e), &made, encoded_length(e), lent);
 }
 
 // A bus M major minor
-fn reset_running(f: Fields, room: usize) {
+fn reset_running(out: &mut Output, f: Fields, room: usize) {
     let n = f.numbers;
     let mut made = [UNTOUCHED; 512];
     let lent = within(&made, room);
@@ -68,7 +66,7 @@ fn reset_running(f: Fields, room: usize) {
         byte(n[3]),
         &mut made[..lent],
     );
-    put_request(b'A', reset_number(r), &made, reset_length(r), lent);
+    put_request(out, b'A', reset_number(r), &made, reset_length(r), lent);
 }
 
 // The line of a decoder call: D number status start length
@@ -80,13 +78,13 @@ fn decoded_fields(d: Decoded) -> [usize; 4] {
 }
 
 // D bus code address asked reply
-fn decode(f: Fields) {
+fn decode(out: &mut Output, f: Fields) {
     let n = f.numbers;
     let reply = f.first;
     let d = decoder::decode::decode(bus_of(n[0]), n[1], n[2], n[3], first(&reply, f.firstlen));
-    put_letter(b'D');
-    put_numbers(&decoded_fields(d));
-    put_end();
+    out.put_letter(b'D');
+    out.put_numbers(&decoded_fields(d));
+    out.put_end();
 }
 
 fn which_number(w: Which) -> usize {
@@ -98,19 +96,20 @@ fn which_number(w: Which) -> usize {
 }
 
 // The line of two reads of one reply: T which results
-fn put_reads<'a>(code: usize, asked: usize, first: &'a [u8], second: &'a [u8]) {
-    put_letter(b'T');
-    put_number(which_number(two_reads::which_read(code, asked, first, second)));
-    put_hex(two_reads::results(code, asked, first, second));
-    put_end();
+fn put_reads<'a>(out: &mut Output, code: usize, asked: usize, first: &'a [u8], second: &'a [u8]) {
+    out.put_letter(b'T');
+    out.put_number(which_number(two_reads::which_read(code, asked, first, second)));
+    out.put_hex(two_reads::results(code, asked, first, second));
+    out.put_end();
 }
 
 // T code asked first second
-fn two_reads(f: Fields) {
+fn two_reads(out: &mut Output, f: Fields) {
     let n = f.numbers;
     let one = f.first;
     let two = f.second;
     put_reads(
+        out,
         n[0],
         n[1],
         first(&one, f.firstlen),
@@ -127,20 +126,20 @@ fn version_fields(v: Version) -> [usize; 3] {
 }
 
 // V major minor
-fn version(f: Fields) {
+fn version(out: &mut Output, f: Fields) {
     let n = f.numbers;
-    put_letter(b'V');
-    put_numbers(&version_fields(version_rule::version(byte(n[0]), byte(n[1]))));
-    put_end();
+    out.put_letter(b'V');
+    out.put_numbers(&version_fields(version_rule::version(byte(n[0]), byte(n[1]))));
+    out.put_end();
 }
 
 // A master call, by its letter, with the size of the lent output.
-pub fn call_master(letter: u8, f: Fields, room: usize) {
+pub fn call_master(out: &mut Output, letter: u8, f: Fields, room: usize) {
     match letter {
-        b'E' => encode(f, room),
-        b'D' => decode(f),
-        b'T' => two_reads(f),
-        b'A' => reset_running(f, room),
-        _ => version(f),
+        b'E' => encode(out, f, room),
+        b'D' => decode(out, f),
+        b'T' => two_reads(out, f),
+        b'A' => reset_running(out, f, room),
+        _ => version(out, f),
     }
 }

@@ -1,46 +1,90 @@
 // The fields of an answer, on standard output: numbers, byte strings, and whether an output is untouched.
-use libc::STDOUT_FILENO;
+use std::alloc::Global;
+use std::io;
+use std::io::{LineWriter, Stdout, Write};
 
 // What the lent output holds before a call.
 pub const UNTOUCHED: u8 = 0xA5;
 
-// The letter that a line begins with.
-pub fn put_letter(letter: u8) {
-    let one = [letter];
-    io::write_all(STDOUT_FILENO, &one);
+// Standard output, a line at a time. The first failure is kept until the end, and nothing is written after it.
+#[derive(Drop)]
+pub struct Output {
+    writer: LineWriter<Stdout>,
+    written: io::Result<()>,
 }
 
-// A space and a number.
-pub fn put_number(n: usize) {
-    io::write_all(STDOUT_FILENO, b" ");
-    io::print_decimal(STDOUT_FILENO, n as u64);
-}
-
-// A space and each number.
-pub fn put_numbers(n: &[usize]) {
-    let mut i = 0;
-    while i < n.len() {
-        put_number(n[i]);
-        i += 1;
+impl Output {
+    pub fn new(alloc: Global, stdout: Stdout) -> io::Result<Self> {
+        Ok(Self {
+            writer: LineWriter::new(alloc, stdout)?,
+            written: Ok(()),
+        })
     }
-}
 
-// A space and a byte string: pairs of hexadecimal digits, `-` for no bytes.
-pub fn put_hex(s: &[u8]) {
-    io::write_all(STDOUT_FILENO, b" ");
-    if s.len() == 0 {
-        io::write_all(STDOUT_FILENO, b"-");
+    // Writes what is left, and says whether all was written.
+    pub fn finish(self) -> io::Result<()> {
+        let Self {
+            mut writer,
+            written,
+        } = self;
+        written?;
+        writer.flush()
     }
-    let mut i = 0;
-    while i < s.len() {
-        io::print_hex(STDOUT_FILENO, s[i] as u64, 2);
-        i += 1;
-    }
-}
 
-// The end of a line.
-pub fn put_end() {
-    io::write_all(STDOUT_FILENO, b"\n");
+    fn put(&mut self, bytes: &[u8]) {
+        if self.written.is_ok() {
+            self.written = self.writer.write_all(bytes);
+        }
+    }
+
+    // The letter that a line begins with.
+    pub fn put_letter(&mut self, letter: u8) {
+        self.put(&[letter]);
+    }
+
+    // A space and a number.
+    pub fn put_number(&mut self, n: usize) {
+        if self.written.is_ok() {
+            self.written = write!(self.writer, " {n}");
+        }
+    }
+
+    // A space and each number.
+    pub fn put_numbers(&mut self, n: &[usize]) {
+        for number in n {
+            self.put_number(*number);
+        }
+    }
+
+    // A pair of hexadecimal digits.
+    fn put_byte(&mut self, byte: u8) {
+        if self.written.is_ok() {
+            self.written = write!(self.writer, "{byte:02x}");
+        }
+    }
+
+    // A space and a byte string: pairs of hexadecimal digits, `-` for no bytes.
+    pub fn put_hex(&mut self, s: &[u8]) {
+        self.put(b" ");
+        if s.len() == 0 {
+            self.put(b"-");
+        }
+        for byte in s {
+            self.put_byte(*byte);
+        }
+    }
+
+    // A space and a hash of 16 hexadecimal digits.
+    pub fn put_hash(&mut self, hash: u64) {
+        if self.written.is_ok() {
+            self.written = write!(self.writer, " {hash:016x}");
+        }
+    }
+
+    // The end of a line.
+    pub fn put_end(&mut self) {
+        self.put(b"\n");
+    }
 }
 
 // bufferok: 1 if the output from a place on is as it was before the call.
@@ -48,12 +92,9 @@ pub fn untouched(out: &[u8], at: usize) -> usize {
     if out.len() < at {
         return 0;
     }
-    let mut i = at;
-    while i < out.len() {
-        if out[i] != UNTOUCHED {
-            return 0;
-        }
-        i += 1;
+    if out[at..].iter().all(|b| *b == UNTOUCHED) {
+        1
+    } else {
+        0
     }
-    1
 }

@@ -111,10 +111,8 @@ fn address_of(n: usize) -> Address {
 
 // Fills an array from the start of a longer one.
 fn copy(to: &mut [u8], from: &[u8]) {
-    let mut i = 0;
-    while i < to.len() && i < from.len() {
-        to[i] = from[i];
-        i += 1;
+    for (place, byte) in to.iter_mut().zip(from) {
+        *place = *byte;
     }
 }
 

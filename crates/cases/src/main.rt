@@ -7,11 +7,13 @@ mod boards;
 
 ghost use Rattle.std.specs.Prelude.{◌≤◌, length};
 
-use byte_slices::wide;
 use case_masters::call_master;
+use case_setup::answers::Output;
 use case_setup::fields::{Fields, fields_of};
 use case_setup::setup::{Setup, byte};
-use libc::{STDERR_FILENO, STDIN_FILENO};
+use std::alloc::Global;
+use std::io;
+use std::io::{BufReader, Eprint, Read as _, Stderr, Stdin};
 use text::part::first;
 use text::read::next_field;
 
@@ -45,46 +47,87 @@ struct Reached {
     more: bool,
 }
 
-// Says which line is bad, and why.
-fn tell(line: u64, said: Said) {
-    io::write_all(STDERR_FILENO, b"line ");
-    io::print_decimal(STDERR_FILENO, line);
-    match said {
-        Said::Good | Said::Nothing => io::write_all(STDERR_FILENO, b" is good\n"),
-        Said::Unknown => io::write_all(STDERR_FILENO, b": no letter that begins a line\n"),
-        Said::Wrong => io::write_all(STDERR_FILENO, b": its fields are not those of its letter\n"),
-        Said::Early => io::write_all(
-            STDERR_FILENO,
-            b": no profile or no flash line before this call\n",
-        ),
-        Said::Long => io::write_all(
-            STDERR_FILENO,
-            b": the next is too long, and the end of this run\n",
-        ),
+// The case file. A read that fails counts as its end, and the failure is kept until the end of the run.
+#[derive(Drop)]
+struct Input {
+    reader: BufReader<Stdin>,
+    was_read: io::Result<()>,
+}
+
+impl Input {
+    fn new(alloc: Global, stdin: Stdin) -> io::Result<Self> {
+        Ok(Self {
+            reader: BufReader::new(alloc, stdin)?,
+            was_read: Ok(()),
+        })
+    }
+
+    // The next byte, unless the file is at its end.
+    fn next_byte(&mut self) -> Option<u8> {
+        let mut one = [0u8; 1];
+        match self.reader.read(&mut one) {
+            Ok(0) => None,
+            Ok(_) => Some(one[0]),
+            Err(e) => {
+                self.was_read = Err(e);
+                None
+            }
+        }
+    }
+}
+
+// What the program reads and writes.
+#[derive(Drop)]
+struct Streams {
+    input: Input,
+    output: Output,
+    errors: Stderr,
+}
+
+impl Streams {
+    // Says whether all was read and written.
+    fn finish(self) -> io::Result<()> {
+        let Self {
+            input,
+            output,
+            errors: _,
+        } = self;
+        output.finish()?;
+        input.was_read
+    }
+}
+
+// Says which line is bad, and why. The answers stand without it, so a failure here is let go.
+fn tell(errors: Stderr, line: u64, said: Said) {
+    let what = match said {
+        Said::Good | Said::Nothing => " is good",
+        Said::Unknown => ": no letter that begins a line",
+        Said::Wrong => ": its fields are not those of its letter",
+        Said::Early => ": no profile or no flash line before this call",
+        Said::Long => ": the next is too long, and the end of this run",
     };
+    let _ = eprintln!(errors; "line {line}{what}");
 }
 
 // Byte i of a flash is a * i + b, modulo 256.
 fn fill(flash: &mut [u8], len: usize, a: usize, b: usize) {
-    let step = a % 256;
-    let mut v = b % 256;
-    let mut i = 0;
-    while i < flash.len() && i < len {
-        flash[i] = byte(v);
-        v = (v + step) % 256;
-        i += 1;
+    let step = byte(a);
+    let mut next = byte(b);
+    for place in flash.iter_mut().take(len) {
+        *place = next;
+        next = next.wrapping_add(step);
     }
 }
 
 // A good line: the setup after it.
-fn act(letter: u8, f: Fields, setup: Setup, flash: &mut [u8]) -> Setup {
+fn act(out: &mut Output, letter: u8, f: Fields, setup: Setup, flash: &mut [u8]) -> Setup {
     let n = f.numbers;
     match letter {
-        b'R' => setup.with_state(boards::receive(f, setup, flash)),
-        b'C' => boards::receive_counted(f, setup, flash),
-        b'I' => setup.with_state(boards::read(f, setup, flash)),
+        b'R' => setup.with_state(boards::receive(out, f, setup, flash)),
+        b'C' => boards::receive_counted(out, f, setup, flash),
+        b'I' => setup.with_state(boards::read(out, f, setup, flash)),
         b'E' | b'D' | b'T' | b'V' | b'A' => {
-            call_master(letter, f, setup.room);
+            call_master(out, letter, f, setup.room);
             setup
         }
         b'F' => {
@@ -136,74 +179,85 @@ fn judge(line: &[u8], letter: u8, good: bool, setup: Setup) -> Said {
 }
 
 // Any line, told if it is bad.
-fn one_line(number: u64, line: &[u8], setup: Setup, flash: &mut [u8]) -> Setup {
+fn one_line(
+    streams: &mut Streams,
+    number: u64,
+    line: &[u8],
+    setup: Setup,
+    flash: &mut [u8],
+) -> Setup {
     let letter = letter_of(line);
     let f = fields_of(letter, line);
     let said = judge(line, letter, f.good, setup);
     match said {
-        Said::Good => act(letter, f, setup, flash),
+        Said::Good => act(&mut streams.output, letter, f, setup, flash),
         Said::Nothing => setup,
         _ => {
-            tell(number, said);
+            tell(streams.errors, number, said);
             setup
         }
     }
 }
 
-// The next byte of the input; 256 at its end.
-fn next_byte() -> usize {
-    let mut one = [0u8; 1];
-    if io::read_full(STDIN_FILENO, &mut one) == 0 {
-        return 256;
-    }
-    wide(one[0])
-}
-
 // Reads a line without its end. One that fills the lent bytes is too long.
-fn read_line(line: &mut [u8]) -> Read
+fn read_line(input: &mut Input, line: &mut [u8]) -> Read
     ensures { result.len ≤ length line.old }
 {
-    let mut len = 0;
-    while len < line.len() {
-        let b = next_byte();
-        if b == 10 || b == 256 {
-            return Read { len, more: b == 10 };
+    for len in 0..line.len() {
+        match input.next_byte() {
+            None => return Read { len, more: false },
+            Some(b'\n') => return Read { len, more: true },
+            Some(b) => line[len] = b,
         }
-        line[len] = byte(b);
-        len += 1;
     }
-    Read { len, more: false }
+    Read {
+        len: line.len(),
+        more: false,
+    }
 }
 
 // The next line, after so many.
-fn turn(number: u64, line: &mut [u8], setup: Setup, flash: &mut [u8]) -> Reached {
-    let got = read_line(line);
+fn turn(
+    streams: &mut Streams,
+    number: u64,
+    line: &mut [u8],
+    setup: Setup,
+    flash: &mut [u8],
+) -> Reached {
+    let got = read_line(&mut streams.input, line);
     if got.len == line.len() {
-        tell(number, Said::Long);
+        tell(streams.errors, number, Said::Long);
         return Reached { setup, more: false };
     }
     let next = std::num::wrapping_add_u64(number, 1);
     Reached {
-        setup: one_line(next, first(line, got.len), setup, flash),
+        setup: one_line(streams, next, first(line, got.len), setup, flash),
         more: got.more,
     }
 }
 
 // All lines. Nothing says that the input ends, so they are counted up to a number that no file reaches.
-fn run(line: &mut [u8], flash: &mut [u8]) {
+fn run(streams: &mut Streams, line: &mut [u8], flash: &mut [u8]) {
     let mut now = Reached {
         setup: Setup::start(),
         more: true,
     };
-    let mut number: u64 = 0;
-    while number < u64::MAX && now.more {
-        now = turn(number, line, now.setup, flash);
-        number += 1;
+    for number in 0..u64::MAX {
+        if !now.more {
+            return;
+        }
+        now = turn(streams, number, line, now.setup, flash);
     }
 }
 
-fn main() {
-    let mut line = io::large_buffer();
+fn main(rt: HostRuntime) -> io::Result<()> {
+    let mut streams = Streams {
+        input: Input::new(rt.alloc(), rt.stdin())?,
+        output: Output::new(rt.alloc(), rt.stdout())?,
+        errors: rt.stderr(),
+    };
+    let mut line = [0u8; 65536];
     let mut flash = [0u8; 131072];
-    run(&mut line, &mut flash);
+    run(&mut streams, &mut line, &mut flash);
+    streams.finish()
 }

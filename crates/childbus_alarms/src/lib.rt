@@ -78,8 +78,7 @@ fn silence_of(v: Verdict, command: u8) -> u32
 }
 
 // Why a received frame got no reply.
-#[unsafe(no_mangle)]
-pub extern "C" fn childbus_silence(
+pub fn childbus_silence(
     profile: &[u8],
     state: &[u8],
     address: u32,
@@ -137,8 +136,7 @@ fn upload_from(b: &[u8]) -> Upload
 }
 
 // How many bytes are lost.
-#[unsafe(no_mangle)]
-pub extern "C" fn childbus_lost(profile: &[u8], before: &[u8], after: &[u8], flash: &[u8]) -> u32
+pub fn childbus_lost(profile: &[u8], before: &[u8], after: &[u8], flash: &[u8]) -> u32
     ensures { result ≡ lost_number profile.now before.now after.now flash.now }
 {
     let p = profile_from(profile);
@@ -154,8 +152,7 @@ fn flag(b: bool) -> u32
 }
 
 // A finalize that erased nothing.
-#[unsafe(no_mangle)]
-pub extern "C" fn childbus_erased_nothing(
+pub fn childbus_erased_nothing(
     profile: &[u8],
     frame: &[u8],
     number: u32,
@@ -181,13 +178,7 @@ fn end_number(e: UploadEnd) -> u32
 }
 
 // What the flash holds at the end of an upload.
-#[unsafe(no_mangle)]
-pub extern "C" fn childbus_upload_end(
-    profile: &[u8],
-    image: &[u8],
-    earlier: &[u8],
-    flash: &[u8],
-) -> u32
+pub fn childbus_upload_end(profile: &[u8], image: &[u8], earlier: &[u8], flash: &[u8]) -> u32
     ensures { result ≡ upload_end_number profile.now image.now earlier.now flash.now }
 {
     let p = profile_from(profile);
@@ -195,13 +186,7 @@ pub extern "C" fn childbus_upload_end(
 }
 
 // A page that changed.
-#[unsafe(no_mangle)]
-pub extern "C" fn childbus_page_changed(
-    profile: &[u8],
-    page: u32,
-    earlier: &[u8],
-    flash: &[u8],
-) -> u32
+pub fn childbus_page_changed(profile: &[u8], page: u32, earlier: &[u8], flash: &[u8]) -> u32
     ensures { result ≡ page_changed_number profile.now page earlier.now flash.now }
 {
     let p = profile_from(profile);

@@ -17,8 +17,7 @@ use state::State;
 use state_bytes::{REPLY_AT, STATE_BYTES, WAITING_AT};
 
 // The fresh board.
-#[unsafe(no_mangle)]
-pub extern "C" fn childbus_fresh(state: &mut [u8]) -> u32
+pub fn childbus_fresh(state: &mut [u8]) -> u32
     ensures { ◌≡◌ {A = FreshLeft} (record { number = result; state = state.new }) (fresh_left state.old) }
 {
     if state.len() < STATE_BYTES {
@@ -30,8 +29,7 @@ pub extern "C" fn childbus_fresh(state: &mut [u8]) -> u32
 }
 
 // A received frame.
-#[unsafe(no_mangle)]
-pub extern "C" fn childbus_receive(
+pub fn childbus_receive(
     profile: &[u8],
     state: &mut [u8],
     address: u32,
@@ -74,8 +72,7 @@ pub extern "C" fn childbus_receive(
 }
 
 // A received frame, counted in the lent tally.
-#[unsafe(no_mangle)]
-pub extern "C" fn childbus_receive_tally(
+pub fn childbus_receive_tally(
     profile: &[u8],
     state: &mut [u8],
     address: u32,
@@ -105,8 +102,7 @@ pub extern "C" fn childbus_receive_tally(
 }
 
 // An I²C read.
-#[unsafe(no_mangle)]
-pub extern "C" fn childbus_read(
+pub fn childbus_read(
     profile: &[u8],
     state: &[u8],
     address: u32,

@@ -1,12 +1,10 @@
 -- From what the decoder and the version rule promise to what their calls of the boundary do.
 use mathlib.Core.Path.{◌≡◌, refl, sym, ap, ◌∙◌}
 use mathlib.Core.Bool.{cond}
-use mathlib.Core.List.{List, [], ◌∷◌}
+use mathlib.Core.List.{List}
 use Prim.Native.Nat.{ℕ, ◌≤◌}
 use lib.Dec.{eqb}
 use borrow.Author.Tests.{le-ltb}
-use denote.Enum.Declared.{tag_of}
-use types.Run.{OneOf, miss}
 use Rattle.rules.specs.declared.kinds.Bus.{Bus}
 use Rattle.rules.specs.declared.requests.Decoded.{Decoded}
 use Rattle.rules.specs.declared.requests.Decoded.TheVariants.{Reply, NotServed, TooShort, SumWrong, OtherAddress, LengthWrong}
@@ -16,10 +14,7 @@ use Rattle.rules.specs.declared.requests.Version.TheVariants.{Known, Application
 use Rattle.rules.specs.Master.{Decoding, unread, decoded_as, decoded, decoded_read, results_in}
 use Rattle.rules.specs.Master.{result_bytes, which_read, Ruled, ruled_as, version_rule}
 use Rattle.laws.proofs.TestLaws.{by_test}
-use Rattle.rules.specs.contracts.requests.Decoded.{the_type}
-use Rattle.rules.specs.contracts.requests.Version as version
 use Rattle.decoder.specs.Calls.{Decodes}
-use Rattle.decoder.proofs.ReadsLaws.{refusals}
 use Rattle.fields.specs.Fields.{clipped}
 use Rattle.fields.proofs.Clipping.{version_rule-clipped}
 use Rattle.profile_bytes.specs.ProfileBytes.{bus_of}
@@ -28,8 +23,8 @@ use Rattle.childbus_replies.specs.ReplyBytes.{decoded_left, chosen_read}
 -- the decoder, on a bus that there is
 
 -- a refusal has no values
-unread-refusal : (d : Decoded) → OneOf refusals (tag_of the_type d) → decoded_as d ≡ unread (decoded_as d).number
-unread-refusal (Reply status start len) h = absurd (miss refusals 0 tt h)
+unread-refusal : (d : Decoded) → ((status start len : ℕ) → d ≡ Reply status start len → ⊥) → decoded_as d ≡ unread (decoded_as d).number
+unread-refusal (Reply status start len) h = absurd (h status start len refl)
 unread-refusal NotServed h = refl
 unread-refusal TooShort h = refl
 unread-refusal SumWrong h = refl
@@ -44,7 +39,7 @@ module _ (bus code address asked : ℕ) (reply : List ℕ) {b : Bus} {answer : D
   unfolding decoded_left
   decoded_as_lem = rw (le-ltb 1 bus least, ← b-is) e.answer_is
 
-  pub decoded-refusal : {n : ℕ} → OneOf refusals (tag_of the_type answer) → n ≡ (decoded_as answer).number
+  pub decoded-refusal : {n : ℕ} → ((status start len : ℕ) → answer ≡ Reply status start len → ⊥) → n ≡ (decoded_as answer).number
       → unread n ≡ decoded_left bus code address asked reply
   decoded-refusal h n-is = rw n-is (sym (unread-refusal answer h) ∙ decoded_as_lem)
 
@@ -69,13 +64,9 @@ pub version_left : (major minor : ℕ) {a b : ℕ} {r : Ruled} → a ≡ clipped
 version_left major minor {b = b} a-is b-is e =
     e ∙ ap (λ (x : ℕ). version_rule x b) a-is ∙ ap (version_rule (clipped major)) b-is ∙ version_rule-clipped major minor
 
--- the places of the answers that name no version
-abbrev pub unnamed : List ℕ
-unnamed = 1 ∷ 2 ∷ []
-
--- they have no values
-pub version_unnamed : (v : Version) → OneOf unnamed (tag_of version.the_type v) → {n : ℕ} → n ≡ (ruled_as v).number
+-- an answer that names no version has no values
+pub version_unnamed : (v : Version) → ((major minor : ℕ) → v ≡ Known major minor → ⊥) → {n : ℕ} → n ≡ (ruled_as v).number
     → record { number = n; major = 0; minor = 0 } ≡ ruled_as v
-version_unnamed (Known major minor) h e = absurd (miss unnamed 0 tt h)
+version_unnamed (Known major minor) h e = absurd (h major minor refl)
 version_unnamed ApplicationRunning h e = rw e
 version_unnamed Unknown h e = rw e

@@ -13,8 +13,7 @@ use rules::kinds::Bus;
 use rules::requests::{Decoded, Version};
 
 // A reply taken apart.
-#[unsafe(no_mangle)]
-pub extern "C" fn childbus_decode(
+pub fn childbus_decode(
     bus: u32,
     code: u32,
     address: u32,
@@ -55,8 +54,7 @@ pub extern "C" fn childbus_decode(
 }
 
 // One reply on I²C, read twice.
-#[unsafe(no_mangle)]
-pub extern "C" fn childbus_two_reads(
+pub fn childbus_two_reads(
     code: u32,
     asked: u32,
     first: &[u8],
@@ -100,13 +98,7 @@ pub fn two_reads_agree()
 {}
 
 // The version rule.
-#[unsafe(no_mangle)]
-pub extern "C" fn childbus_version(
-    major: u32,
-    minor: u32,
-    known_major: &mut u32,
-    known_minor: &mut u32,
-) -> u32
+pub fn childbus_version(major: u32, minor: u32, known_major: &mut u32, known_minor: &mut u32) -> u32
     ensures { ◌≡◌ {A = Ruled} (record { number = result; major = known_major.new; minor = known_minor.new })
         (version_rule major minor) }
 {

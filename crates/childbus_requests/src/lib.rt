@@ -43,8 +43,7 @@ fn encode_request(
 }
 
 // A request with its CRC.
-#[unsafe(no_mangle)]
-pub extern "C" fn childbus_encode(
+pub fn childbus_encode(
     bus: u32,
     longest: u32,
     code: u32,
@@ -70,14 +69,7 @@ pub extern "C" fn childbus_encode(
 }
 
 // A general call, to all boards.
-#[unsafe(no_mangle)]
-pub extern "C" fn childbus_general(
-    bus: u32,
-    longest: u32,
-    reset: u32,
-    out: &mut [u8],
-    made: &mut usize,
-) -> u32
+pub fn childbus_general(bus: u32, longest: u32, reset: u32, out: &mut [u8], made: &mut usize) -> u32
     ensures { ◌≡◌ {A = EncodedLeft} (record { number = result; made = made.new; out = out.new })
         (encoded_left bus longest (general_of reset) 0 [] out.old) }
 {
@@ -86,8 +78,7 @@ pub extern "C" fn childbus_general(
 }
 
 // W4: the reset for a board that answered this version, where its application runs.
-#[unsafe(no_mangle)]
-pub extern "C" fn childbus_reset_running(
+pub fn childbus_reset_running(
     bus: u32,
     longest: u32,
     major: u32,

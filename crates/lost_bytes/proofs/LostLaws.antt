@@ -1,5 +1,5 @@
--- Laws of lost bytes: the length of a part, and the turns of the loop that counts.
-use mathlib.Core.Path.{◌≡◌}
+-- Laws of lost bytes: parts of a list, and the turns of the loop that counts.
+use mathlib.Core.Path.{◌≡◌, refl, ap}
 use mathlib.Core.Bool.{Bool, true, false, cond}
 use mathlib.Core.List.{List, [], ◌∷◌}
 use Prim.Native.Nat.{ℕ, suc, zero, suc-le-suc, ◌+◌, ◌<◌, ◌≤◌}
@@ -8,6 +8,12 @@ use native.Mathlib.Numerals.{add-one}
 use lib.ListN.{length, get_or, take, drop, drop_of_length-le}
 use lib.Seq.{drop-cons}
 use Rattle.lost_bytes.specs.Lost.{lost_byte, lost_from}
+
+-- as many bytes as a part has
+pub take_part : (n : ℕ) (l : List ℕ) → take (length (take n l)) l ≡ take n l
+take_part zero l = refl
+take_part (suc n) [] = refl
+take_part (suc n) (x ∷ xs) = ap (λ (r : List ℕ). x ∷ r) (take_part n xs)
 
 -- a part is no longer than the whole
 pub length_part : (n : ℕ) (l : List ℕ) → length (take n l) ≤ length l

@@ -4,37 +4,41 @@
 #![tactic(auto)]
 
 use byte_slices::number_at;
-use libc::{STDIN_FILENO, STDOUT_FILENO};
+use std::alloc::Global;
+use std::io;
+use std::io::{BufWriter, Read, Write};
 
 // The line of one byte string.
-fn write_sums(bytes: &[u8]) {
-    io::print_hex(STDOUT_FILENO, crc::crc8(bytes) as u64, 2);
-    io::write_all(STDOUT_FILENO, b" ");
-    io::print_hex(STDOUT_FILENO, crc::crc16(bytes) as u64, 4);
-    io::write_all(STDOUT_FILENO, b"\n");
+fn write_sums(out: &mut impl Write, bytes: &[u8]) -> io::Result<()> {
+    writeln!(out, "{:02x} {:04x}", crc::crc8(bytes), crc::crc16(bytes))
 }
 
 // The lines of all whole records.
-fn write_all_sums(input: &[u8]) {
+fn write_all_sums(out: &mut impl Write, input: &[u8]) -> io::Result<()> {
     let mut at = 0;
     while 2 <= input.len() - at {
         let start = at + 2;
         let len = number_at(input, at);
         if input.len() - start < len {
-            return;
+            return Ok(());
         }
         at = start + len;
-        write_sums(&input[start..at]);
+        write_sums(out, &input[start..at])?;
     }
+    Ok(())
 }
 
-// Reads as much as the lent bytes hold, and writes the lines.
-fn run(input: &mut [u8]) {
-    let n = io::read_full(STDIN_FILENO, input);
-    write_all_sums(&input[..n]);
+// Reads at most 400,000 bytes, and writes the lines, also of what came before a read that failed.
+fn run(alloc: Global, reader: impl Read + Drop, out: &mut impl Write) -> io::Result<()> {
+    let mut input = Vec::new(alloc);
+    let read = reader.take(400000).read_to_end(&mut input);
+    write_all_sums(out, &input)?;
+    read?;
+    Ok(())
 }
 
-fn main() {
-    let mut input = [0u8; 400000];
-    run(&mut input);
+fn main(rt: HostRuntime) -> io::Result<()> {
+    let mut out = BufWriter::new(rt.alloc(), rt.stdout())?;
+    run(rt.alloc(), rt.stdin(), &mut out)?;
+    out.flush()
 }

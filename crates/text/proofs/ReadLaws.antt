@@ -1,6 +1,9 @@
 -- Laws of fields, numbers and pairs of digits, each at a place of a slice. `drop i s` is what is left of s there.
-use Rattle.std.proofs.Common.{◌≡◌, ℕ, suc, ◌+◌, ◌-◌, ◌*◌, ◌/◌, ◌<◌, ◌≤◌, Bool, true, false, cond, ◌&&◌, eqb, leb, List, [], ◌∷◌, length, get_or, take, drop, sym, refl, ap, ◌∙◌, add-one, arith, length-drop, drop_of_length-le, drop-cons, eq-eqb, ne_eqb, le-leb, leb-true}
+use Rattle.std.proofs.Common.{◌≡◌, ℕ, suc, ◌+◌, ◌-◌, ◌*◌, ◌/◌, ◌<◌, ◌≤◌, Bool, true, false, cond, ◌&&◌, eqb, leb, List, [], ◌∷◌}
+use Rattle.std.proofs.Common.{length, get_or, take, drop, sym, refl, ap, ◌∙◌, add-one, arith, length-drop, length-take-le}
+use Rattle.std.proofs.Common.{drop_of_length-le, drop-cons, eq-eqb, ne_eqb, le-leb, leb-true}
 use borrow.Author.Tests.{lt-leb}
+use Rattle.text.specs.Counts.{IsPrefixLen}
 use Rattle.text.specs.declared.read.Parsed.{Parsed}
 use Rattle.text.specs.declared.read.Field.{Field}
 use Rattle.text.specs.declared.read.Parsed.TheVariants.{Value, Wrong}
@@ -15,7 +18,8 @@ drop-one s i h = rw (add-one, drop-cons s i 0)
 pub drop_two : (s : List ℕ) (i : ℕ) → i + 1 < length s → drop i s ≡ get_or s i 0 ∷ get_or s (i + 1) 0 ∷ drop (i + 2) s
 drop_two s i h =
     let e : i + 1 + 1 ≡ i + 2 = omega arith in
-    drop-one s i (omega arith) ∙ ap (λ (r : List ℕ). get_or s i 0 ∷ r) (drop-one s (i + 1) h ∙ ap (λ (k : ℕ). get_or s (i + 1) 0 ∷ drop k s) e)
+    drop-one s i (omega arith)
+    ∙ ap (λ (r : List ℕ). get_or s i 0 ∷ r) (drop-one s (i + 1) h ∙ ap (λ (k : ℕ). get_or s (i + 1) 0 ∷ drop k s) e)
 
 -- nothing is left
 pub before_past : (b : ℕ) (s : List ℕ) (i : ℕ) → length s ≤ i → before b (drop i s) ≡ []
@@ -162,7 +166,8 @@ pub bytes_of_within : (room : ℕ) (s : List ℕ) (n : ℕ) → bytes_of room s 
 unfolding bytes_of
 bytes_of_within room s n e = dash (is_dash s) (leb 1 (length s) && hex_right s) (leb (length s / 2) room) refl e
   where
-    dash : (d p t : Bool) → leb (length s / 2) room ≡ t → cond d (Value 0) (cond (p && t) (Value (length s / 2)) Wrong) ≡ Value n → n ≤ room
+    dash : (d p t : Bool) → leb (length s / 2) room ≡ t
+        → cond d (Value 0) (cond (p && t) (Value (length s / 2)) Wrong) ≡ Value n → n ≤ room
     dash true p t fits e = let none : 0 ≡ n = cc in omega arith
     dash false true true fits e = let half : length s / 2 ≡ n = cc in omega (arith, leb-true (length s / 2) room fits)
     dash false true false fits e = absurd (let z : ◌≡◌ {A = ℕ} 0 1 = cc in omega arith)
@@ -172,6 +177,10 @@ pub bytes_of_none : (room : ℕ) (s : List ℕ) → length s ≡ 0 → bytes_of 
 unfolding bytes_of is_dash
 bytes_of_none room [] h = refl
 bytes_of_none room (c ∷ s) h = absurd (omega arith)
+
+-- a number of bytes that are there
+pub prefix_len_of_le : (n : ℕ) (xs : List ℕ) → n ≤ length xs → IsPrefixLen n xs
+prefix_len_of_le n xs h = (h, sym (length-take-le n xs h))
 
 -- a byte string read: how many bytes it has, and the output with that
 pub bytes_read : (s out out' : List ℕ) (r : Parsed) → bytes_of (length out) s ≡ r → out' ≡ bytes_laid s out r → BytesRead s out r out'

@@ -1,6 +1,6 @@
 // Parts of a slice that can't run past its end.
 ghost use Rattle.std.specs.Prelude.{◌≡◌, min, length, take};
-ghost use Rattle.io.specs.Counts.{IsPrefixLen};
+ghost use Rattle.text.specs.Counts.{IsPrefixLen};
 
 // How many of its first n bytes a slice has.
 pub fn within(s: &[u8], n: usize) -> usize

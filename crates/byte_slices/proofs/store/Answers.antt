@@ -8,12 +8,11 @@ pub loop-i-init : goal.loop-i-init
 loop-i-init c = (search rules, refl, paste-zero _ c.args.at c.args.bytes.now)
 
 pub loop-i-preserved : goal.loop-i-preserved
-loop-i-preserved c =
-    (
-      omega arith,
-      simp length-set (omega arith),
-      rw (c.loop-i.invariant.2, add-one) (paste-suc _ c.args.at c.args.bytes.now c.loop-i.i 0 (omega arith) (omega arith)),
-    )
+loop-i-preserved c = (
+  omega arith,
+  simp length-set (omega arith),
+  rw (c.loop-i.invariant.2, add-one) (paste-suc _ c.args.at c.args.bytes.now c.loop-i.i 0 (omega arith) (omega arith)),
+)
 
 pub returns : goal.returns
 unfolding overlay

@@ -13,8 +13,7 @@ last16 = 0 ∷ 1 ∷ 2 ∷ 3 ∷ 4 ∷ 5 ∷ 6 ∷ 7 ∷ 8 ∷ 9 ∷ 10 ∷ 11 �
 
 pub returns : goal.returns
 unfolding last8 last16 entries_right half_step table_step bit byte
-returns c =
-    (
+returns c = (
   λ claim. let e : ◌≡◌ {A = ℕ} 1 7 = claim last8 refl 1 0 (omega arith) (omega arith) in absurd (omega (arith, e)),
   λ claim. let e : ◌≡◌ {A = ℕ} 1 0xC0C1 = claim last16 refl 1 0 (omega arith) (omega arith) in absurd (omega (arith, e)),
 )

@@ -10,25 +10,22 @@ pub version-requires : goal.version-requires
 version-requires c = few_fit c.args.p c.args.h _ _ c.args.at 2 c.requires.serving (omega arith)
 
 pub set_address-requires : goal.set_address-requires
-set_address-requires c =
-    (
-      set_address_arguments c.args.code (length c.args.args.now) c.in-1.is c.requires.args_value,
-      omega (arith, few_fit c.args.p c.args.h _ _ c.args.at 0 c.requires.serving (omega arith)),
-    )
+set_address-requires c = (
+  set_address_arguments c.args.code (length c.args.args.now) c.in-1.is c.requires.args_value,
+  omega (arith, few_fit c.args.p c.args.h _ _ c.args.at 0 c.requires.serving (omega arith)),
+)
 
 pub hardware_info-requires : goal.hardware_info-requires
-hardware_info-requires c =
-    (
-      omega (arith, (unrefused_profile (c.requires.serving.unrefused [] [])).size_most),
-      few_fit c.args.p c.args.h _ _ c.args.at 5 c.requires.serving (omega arith),
-    )
+hardware_info-requires c = (
+  omega (arith, (unrefused_profile (c.requires.serving.unrefused [] [])).size_most),
+  few_fit c.args.p c.args.h _ _ c.args.at 5 c.requires.serving (omega arith),
+)
 
 pub serial-requires : goal.serial-requires
-serial-requires c =
-    (
-      omega (arith, (unrefused_profile (c.requires.serving.unrefused [] [])).serial_most, length-used c.args.p.seriallen c.args.p.serial),
-      few_fit c.args.p c.args.h _ _ c.args.at 16 c.requires.serving (omega arith),
-    )
+serial-requires c = (
+  omega (arith, (unrefused_profile (c.requires.serving.unrefused [] [])).serial_most, length-used c.args.p.seriallen c.args.p.serial),
+  few_fit c.args.p c.args.h _ _ c.args.at 16 c.requires.serving (omega arith),
+)
 
 pub write-requires : goal.write-requires
 write-requires c =
@@ -49,11 +46,10 @@ pub revision-requires : goal.revision-requires
 revision-requires c = few_fit c.args.p c.args.h _ _ c.args.at 1 c.requires.serving (omega arith)
 
 pub reply_number-requires : goal.reply_number-requires
-reply_number-requires c =
-    (
-      omega (arith, (unrefused_profile (c.requires.serving.unrefused [] [])).longest_most),
-      few_fit c.args.p c.args.h _ _ c.args.at 2 c.requires.serving (omega arith),
-    )
+reply_number-requires c = (
+  omega (arith, (unrefused_profile (c.requires.serving.unrefused [] [])).longest_most),
+  few_fit c.args.p c.args.h _ _ c.args.at 2 c.requires.serving (omega arith),
+)
 
 pub returns-in-0 : goal.returns-in-0
 unfolding performed

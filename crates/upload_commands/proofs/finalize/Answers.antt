@@ -16,12 +16,11 @@ finalize-finalized-requires c =
     }
 
 pub reply_number-requires : goal.reply_number-requires
-reply_number-requires c =
-    (
-      count_most c.args.p c.args.h _ _ c.args.at c.requires.serving (upload_with c.finalize-finalized.result c.args.waiting.now) _
-          c.finalize-finalized.ensures.formed,
-      few_fit c.args.p c.args.h _ _ c.args.at 2 c.requires.serving (omega arith),
-    )
+reply_number-requires c = (
+  count_most c.args.p c.args.h _ _ c.args.at c.requires.serving (upload_with c.finalize-finalized.result c.args.waiting.now) _
+      c.finalize-finalized.ensures.formed,
+  few_fit c.args.p c.args.h _ _ c.args.at 2 c.requires.serving (omega arith),
+)
 
 pub returns : goal.returns
 unfolding finished
