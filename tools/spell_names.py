@@ -5,7 +5,7 @@ usage: python3 tools/spell_names.py [FOLDER]       FOLDER is the top of the repo
 
 Whole words turn, and no others: in .antt files in the code and in the code spans of comments, in .rt files outside strings (there only names
 with a capital inside, which no item of the source has), in must-fail edits as in the file that they edit, in .md files in code spans.
-In a Proof.antt a step of the code keeps its name (`c.before.well-formed.ensures`). A second run changes nothing.
+In a Proof.antt a step of the code keeps its name (`c.before.well-formed.ensures`). Run it once, after port.py: a few new names were old names of others.
 """
 import os
 import re
