@@ -1,6 +1,5 @@
 -- The demands of the C boundary: what is written down of it is what the board of the rules does (`Followed`), of which they are proved.
 use mathlib.Core.Path.{ap, ◌∙◌}
-use mathlib.Core.List.{List}
 use Rattle.rules.specs.State as states
 use Rattle.ledger.specs.Ledger.{opened}
 use Rattle.ledger.specs.Calls.{ruled, trace}
