@@ -27,7 +27,8 @@ use Rattle.laws.proofs.StateLaws.{refusal_unrefused, unrefused_refusal}
 use Rattle.laws.proofs.CommandLaws.{length-reply, set_address_cases, executed_cases}
 use Rattle.laws.proofs.VerdictLaws.{verdict_cases}
 use Rattle.laws.proofs.AddressLaws.{taken-addressed}
-use Rattle.laws.proofs.BoardLaws.{with_reply_address, with_reply_running, with_reply_last, received-handled, received-refused, refusal_least}
+use Rattle.laws.proofs.BoardLaws.{with_reply_address, with_reply_running, with_reply_last, received-handled, received-refused}
+use Rattle.laws.proofs.BoardLaws.{refusal_least}
 use Rattle.laws.proofs.BoardLaws.{ignored_unanswered, received_formed_call, read_again}
 use Rattle.ledger.specs.Ledger.{answered_ok}
 use Rattle.demands.specs.Acceptance.{new_address}

@@ -2,29 +2,25 @@
 -- say it after (`kept_says`, `refused_says`).
 use mathlib.Core.Path.{◌≡◌, refl, sym, ap, ◌∙◌}
 use mathlib.Core.List.{List, [], ◌∷◌}
-use Prim.Native.Nat.{ℕ, ◌<◌, ◌≤◌}
-use native.Mathlib.Omega.{arith}
+use Prim.Native.Nat.{ℕ, ◌≤◌}
 use lib.Dec.{ltb}
 use lib.ListN.{length, take}
 use borrow.Author.Tests.{ltb-true, ltb-false}
-use Rattle.rules.specs.Profile as rules
 use Rattle.rules.specs.State as states
 use Rattle.rules.specs.Board.{Called, received, read_out}
 use Rattle.laws.proofs.TestLaws.{by_test}
 use Rattle.laws.proofs.LaidLaws.{take-laid}
 use Rattle.laws.proofs.BoardLaws.{read_out_state, read_out_flash}
 use Rattle.ledger.specs.Ledger.{Ledger}
-use Rattle.ledger.specs.Calls as ledger
-use Rattle.ledger.specs.Calls.{Reaction, Step, calls, reaction, ruled, stepped, trace}
+use Rattle.ledger.specs.Calls.{Reaction, Step, calls, ruled, stepped, trace}
 use Rattle.demands.proofs.Refused.{refused_untouched}
 use Rattle.state.specs.View.{view}
 use Rattle.profile.specs.View.{profile_of}
 use Rattle.profile_bytes.specs.ProfileBytes.{profile_at}
 use Rattle.state_bytes.specs.StateBytes.{state_at}
-use Rattle.childbus_board.specs.BoardBytes as bytes
 use Rattle.childbus_board.specs.BoardBytes.{received_left, read_left}
 use Rattle.childbus_board.proofs.KeptLaws.{kept_says, refused_says}
-use Rattle.boundary_claims.specs.Calls.{Call, Receive, Read, Left, left, call_of, calls_of, step_of, steps_from}
+use Rattle.boundary_claims.specs.Calls.{Call, Receive, Read, left, call_of, calls_of, step_of, steps_from}
 
 module _ (profile state flash : List ℕ) where
   -- what the rules' board does on what the bytes say

@@ -1,6 +1,5 @@
 -- The demands of the C boundary: what is written down of it is what the board of the rules does (`Followed`), of which they are proved.
 use mathlib.Core.Path.{ap, ◌∙◌}
-use mathlib.Core.List.{List}
 use Rattle.rules.specs.State as states
 use Rattle.ledger.specs.Ledger.{opened}
 use Rattle.ledger.specs.Calls.{ruled, trace}
@@ -21,7 +20,8 @@ use Rattle.boundary_claims.proofs.Unreserved.{all-unreserved}
 pub boundary_meets_demands : BoundaryMeetsDemands
 boundary_meets_demands profile buffer flash cs long =
     let begin =
-    ap (λ (x : states.State). trace ruled (profile_of (profile_at profile)) x flash (opened flash) (calls_of cs)) (fresh_says buffer long) in
+    ap (λ (x : states.State). trace ruled (profile_of (profile_at profile)) x flash (opened flash) (calls_of cs))
+    (fresh_says buffer long) in
     let same = steps-ruled profile (fresh_left buffer).state flash (opened flash) cs ∙ begin in
     record {
       as_ruled = same;

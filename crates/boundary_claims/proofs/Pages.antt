@@ -10,7 +10,7 @@ use Rattle.rules.specs.State as rules
 use Rattle.rules.specs.State.{well_formed}
 use Rattle.rules.specs.Numbers.{refusal}
 use Rattle.rules.specs.Frames.{command_of, arguments_of}
-use Rattle.rules.specs.Board.{Called, received}
+use Rattle.rules.specs.Board.{Called}
 use Rattle.demands.specs.Past.{past_of, well_framed}
 use Rattle.page_claims.specs.Pages.{Laid}
 use Rattle.page_claims.proofs.HandedIn.{refused_malformed, laid}

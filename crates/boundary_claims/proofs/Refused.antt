@@ -1,5 +1,5 @@
 -- A refused C call leaves every byte: of the state by `refused_says`, of flash and output by the rules (`refused_untouched`).
-use mathlib.Core.Path.{◌≡◌, refl, ap, ◌∙◌}
+use mathlib.Core.Path.{refl, ap}
 use mathlib.Core.List.{List, [], ◌∷◌}
 use Prim.Native.Nat.{ℕ, ◌≤◌}
 use lib.ListN.{length}

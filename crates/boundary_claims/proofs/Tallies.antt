@@ -2,12 +2,11 @@
 -- `tally_claims`.
 use mathlib.Core.Path.{◌≡◌, refl, ap, ◌∙◌}
 use mathlib.Core.List.{List, [], ◌∷◌, ◌++◌}
-use Prim.Native.Nat.{ℕ, ◌+◌, ◌≤◌, ◌<◌}
+use Prim.Native.Nat.{ℕ, ◌≤◌, ◌<◌}
 use native.Mathlib.Omega.{arith}
 use lib.Dec.{leb}
 use lib.ListN.{length, drop}
 use borrow.Author.Tests.{leb-true, leb-false}
-use Rattle.rules.specs.Numbers.{laid}
 use Rattle.laws.proofs.TestLaws.{by_test}
 use Rattle.laws.proofs.LaidLaws.{length-laid, drop-laid}
 use Rattle.fields.specs.Fields.{Bytes}

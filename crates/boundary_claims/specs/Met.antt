@@ -1,6 +1,5 @@
 -- The three demands, and W1, of a list of C calls.
 use Rattle.std.specs.Prelude.{◌≡◌, true, List, [], ◌∷◌, ℕ, ◌+◌, ◌≤◌, length}
-use Rattle.rules.specs.Profile as rules
 use Rattle.rules.specs.Profile.{in_range}
 use Rattle.ledger.specs.Calls.{ruled, traced}
 use Rattle.ledger.specs.Claim.{Holds}

@@ -10,7 +10,8 @@ use lib.ListN.{length, get_or, drop}
 use borrow.Author.Tests.{leb-true}
 use Rattle.rules.specs.Profile.{Profile}
 use Rattle.rules.specs.State.{State, with_upload}
-use Rattle.rules.specs.Frames.{reply, destination, command_of, arguments_of, number_at, two_bytes, reset_frame, reset_address_frame, is_general}
+use Rattle.rules.specs.Frames.{reply, destination, command_of, arguments_of, number_at, two_bytes, reset_frame, reset_address_frame}
+use Rattle.rules.specs.Frames.{is_general}
 use Rattle.rules.specs.Commit.{Progress, taken_all, finalized}
 use Rattle.rules.specs.Responses.{Acted, Reply, replying, ok, command_not_supported, invalid_arguments}
 use Rattle.rules.specs.Commands.{set_address, hardware_info, serial_number, started, accepted, restarted, written, finished}

@@ -1,11 +1,13 @@
 -- Demand 2 over any board: what a call gets, by what is known before it.
-use Rattle.std.specs.Prelude.{◌≡◌, Bool, true, false, cond, not, ◌&&◌, List, [], ◌∷◌, ℕ, ◌+◌, ◌-◌, ◌≤◌, eqb, leb, ltb, length, take, drop, get_or}
+use Rattle.std.specs.Prelude.{◌≡◌, Bool, true, false, cond, not, ◌&&◌, List, [], ◌∷◌, ℕ, ◌+◌, ◌-◌, ◌≤◌, eqb, leb, ltb, length, take}
+use Rattle.std.specs.Prelude.{drop, get_or}
 use Rattle.rules.specs.declared.kinds.Bus.{Bus}
 use Rattle.rules.specs.declared.kinds.Bus.TheVariants.{I2c, Rs485}
 use Rattle.rules.specs.Profile.{Profile, in_range}
 use Rattle.rules.specs.State.{State, well_formed}
 use Rattle.rules.specs.CheckSums.{sum_right}
-use Rattle.rules.specs.Frames.{reply, destination, answers_to, addressed, is_general, reset_frame, command_of, arguments_of, number_at, two_bytes}
+use Rattle.rules.specs.Frames.{reply, destination, answers_to, addressed, is_general, reset_frame, command_of, arguments_of, number_at}
+use Rattle.rules.specs.Frames.{two_bytes}
 use Rattle.rules.specs.Responses.{ok, invalid_arguments}
 use Rattle.rules.specs.Commands.{address_taken, reserved, type_matches, accepted, readable}
 use Rattle.ledger.specs.Ledger.{Ledger}

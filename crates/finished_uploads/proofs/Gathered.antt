@@ -14,7 +14,8 @@ use Rattle.rules.specs.Commit.{Progress, taken_all}
 use Rattle.laws.proofs.CommitLaws.{taken_all-append}
 use Rattle.laws.proofs.ImageLaws.{begins}
 use Rattle.laws.proofs.TestLaws.{by_test, &&_true}
-use Rattle.ledger.specs.Ledger.{Ledger, opened, joins_all, writes, commits, finalizes, entered, is_write, is_finalize, write_address, write_data}
+use Rattle.ledger.specs.Ledger.{Ledger, opened, joins_all, writes, commits, finalizes, entered, is_write, is_finalize, write_address}
+use Rattle.ledger.specs.Ledger.{write_data}
 use Rattle.ledger.specs.Calls.{Call, Frame, Read, Step, fed}
 use Rattle.ledger.specs.Claim.{Piece, writing, pieces, follow, from_zero, joined, Every}
 use Rattle.ledger.proofs.CommitStep.{Agrees, Paged}

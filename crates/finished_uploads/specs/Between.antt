@@ -53,7 +53,8 @@ pub record AllBetween : Type 0 where
   pub answers_are :
       answers_of upload
       ≡ (0 ∷ ok ∷ 0 ∷ []) ∷ (0 ∷ ok ∷ 0 ∷ []) ∷ (0 ∷ ok ∷ 2 ∷ []) ∷ (0 ∷ ok ∷ 0 ∷ []) ∷ (0 ∷ invalid_arguments ∷ 0 ∷ []) ∷ (5 ∷ [])
-      ∷ (0 ∷ ok ∷ 4 ∷ []) ∷ (0 ∷ ok ∷ 4 ∷ []) ∷ (1 ∷ []) ∷ (0 ∷ invalid_crc ∷ 0 ∷ []) ∷ (0 ∷ ok ∷ 0 ∷ []) ∷ (1 ∷ []) ∷ (0 ∷ ok ∷ 0 ∷ []) ∷ []
+      ∷ (0 ∷ ok ∷ 4 ∷ []) ∷ (0 ∷ ok ∷ 4 ∷ []) ∷ (1 ∷ []) ∷ (0 ∷ invalid_crc ∷ 0 ∷ []) ∷ (0 ∷ ok ∷ 0 ∷ []) ∷ (1 ∷ [])
+      ∷ (0 ∷ ok ∷ 0 ∷ []) ∷ []
   pub uploaded : Uploaded board (replicate 64 0x11 ++ 0x22 ∷ 0x33 ∷ []) upload last
   pub none_waited : NoneWaited board flash_before upload
   pub count_is : count_bytes board.bus last.reply ≡ high_low 2

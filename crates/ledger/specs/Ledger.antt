@@ -1,7 +1,8 @@
 -- Document 01, "The plain book": an independent witness. It gets the profile, frames and their answers, but no state or flash of the board.
 -- It shares no definition with the board: it reads frames at fixed offsets, knows the RS485 reset as its four bytes, and lays bytes in a
 -- way of its own.
-use Rattle.std.specs.Prelude.{Bool, true, false, cond, ◌&&◌, ◌||◌, not, List, [], ◌∷◌, ◌++◌, ℕ, ◌+◌, ◌-◌, ◌*◌, ◌/◌, ◌%◌, eqb, ltb, length, take, drop, get_or, set}
+use Rattle.std.specs.Prelude.{Bool, true, false, cond, ◌&&◌, ◌||◌, not, List, [], ◌∷◌, ◌++◌, ℕ, ◌+◌, ◌-◌, ◌*◌, ◌/◌, ◌%◌, eqb, ltb}
+use Rattle.std.specs.Prelude.{length, take, drop, get_or, set}
 use Rattle.rules.specs.declared.kinds.Bus.{Bus}
 use Rattle.rules.specs.declared.kinds.Bus.TheVariants.{I2c, Rs485}
 use Rattle.rules.specs.Profile.{Profile}

@@ -48,7 +48,8 @@ module _ (l : Line) (b : Board) (ready : Ready l b) (m : Message) where
   orderly : FormedCall l.profile b.flash (call x)
   orderly = received_formed_call l.profile b.state b.flash l.to (frame x) l.buffer unrefused.well_formed_holds
 
-  module _ (code : ℕ) (arguments said : List ℕ) (u : Upload) (d : List ℕ) (made : (encoding x).number ≡ 0) (taken : TakenAs x code arguments)
+  module _ (code : ℕ) (arguments said : List ℕ) (u : Upload) (d : List ℕ) (made : (encoding x).number ≡ 0)
+      (taken : TakenAs x code arguments)
       (replying : ResponseRead x code arguments (get_or arguments 2 0)
       (performed l.profile b.state code arguments b.flash).response)
       (acts : performed l.profile b.state code arguments b.flash

@@ -37,7 +37,8 @@ use Rattle.roundtrip.proofs.Responded.{Responding, Responded, Responds, executed
 
 -- a whole reply decodes
 whole : (b : Bus) (code to asked status : ℕ) (results more : List ℕ) → served code ≡ true → Ends b more → status ≤ 5
-    → results_missing code asked status (length results) ≡ false → ReadsAs b code to asked (reply b to status results ++ more) status results
+    → results_missing code asked status (length results) ≡ false
+    → ReadsAs b code to asked (reply b to status results ++ more) status results
 whole b code to asked status results more row ends known enough =
     let e = decoded-reply to status results more b code asked row ends known enough in
     record { decoding_is = e; results_are = rw e (results-reply to status results more b) }

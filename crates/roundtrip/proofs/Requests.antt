@@ -19,7 +19,8 @@ use Rattle.rules.specs.State.{State, fresh}
 use Rattle.rules.specs.Bytes.{same}
 use Rattle.rules.specs.CheckSums.{bit, byte, run, sum, sealed}
 use Rattle.rules.specs.Numbers.{refusal}
-use Rattle.rules.specs.Frames.{two_bytes, request, reset_address_frame, reset_frame, destination, addressed, verdict, command_of, arguments_of}
+use Rattle.rules.specs.Frames.{two_bytes, request, reset_address_frame, reset_frame, destination, addressed, verdict, command_of}
+use Rattle.rules.specs.Frames.{arguments_of}
 use Rattle.rules.specs.Commands.{tabled, served, length_allowed, reserved, performed, executed}
 use Rattle.rules.specs.Board.{nothing, address_reset, handled}
 use Rattle.rules.specs.Master.{Instruction, Commands, AddressReset, BoardReset, instruction_of, instruction_bytes, request_bytes}

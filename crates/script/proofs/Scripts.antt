@@ -28,7 +28,8 @@ calls_of_records_enough n (suc m) (suc k) bytes within within' =
     (λ e. rw e)
 
 module _ (n : ℕ) (bytes : List ℕ) where
-  pub calls_in_record : whole bytes ≡ true → calls_in n bytes ≡ call_with (input bytes) n ∷ calls_in n (drop (head + frame_length bytes) bytes)
+  pub calls_in_record : whole bytes ≡ true
+      → calls_in n bytes ≡ call_with (input bytes) n ∷ calls_in n (drop (head + frame_length bytes) bytes)
   unfolding calls_of_records
   calls_in_record e =
       let rest : List ℕ = drop (head + frame_length bytes) bytes in

@@ -1,6 +1,7 @@
 -- Boards that are right but for one error, each with the sentence of document 01 that names it.
 -- Which demand refuses each: src/lib.rt. On which calls: proofs/.
-use Rattle.std.specs.Prelude.{Bool, true, cond, not, ◌&&◌, ◌||◌, List, [], ◌∷◌, ◌++◌, ℕ, suc, ◌+◌, ◌-◌, ◌%◌, eqb, ltb, length, take, set, get_or, replicate}
+use Rattle.std.specs.Prelude.{Bool, true, cond, not, ◌&&◌, ◌||◌, List, [], ◌∷◌, ◌++◌, ℕ, suc, ◌+◌, ◌-◌, ◌%◌, eqb, ltb, length, take}
+use Rattle.std.specs.Prelude.{set, get_or, replicate}
 use Rattle.rules.specs.declared.kinds.Bus.{Bus}
 use Rattle.rules.specs.declared.kinds.Bus.TheVariants.{Rs485}
 use Rattle.rules.specs.declared.kinds.Address.TheVariants.{Own}

@@ -6,7 +6,8 @@ abbrev pub invariant-loop-i : goal.invariant-loop-i
 invariant-loop-i l =
     (l.i ≤ length l.bytes)
     × (l.n ≤ l.i)
-    × (lost_from l.flash l.first l.waiting l.address l.bytes ≡ l.n + lost_from l.flash l.first l.waiting (l.address + l.i) (drop l.i l.bytes))
+    × (lost_from l.flash l.first l.waiting l.address l.bytes
+    ≡ l.n + lost_from l.flash l.first l.waiting (l.address + l.i) (drop l.i l.bytes))
 
 abbrev pub decreases-loop-i : goal.decreases-loop-i
 decreases-loop-i l = length l.bytes - l.i

@@ -36,7 +36,8 @@ read_counted h =
 running_counted : TallyRight counts_running → ⊥
 unfolding computing noted
 running_counted h =
-    let right = h (small Rs485 64) (with_running fresh true) (zeros 64) cleared (Frame 0 (request Rs485 20 0x00 []) 128 ∷ []) cleared_most in
+    let right =
+    h (small Rs485 64) (with_running fresh true) (zeros 64) cleared (Frame 0 (request Rs485 20 0x00 []) 128 ∷ []) cleared_most in
     let foreign : ◌≡◌ {A = ℕ} 1 0 = ap (λ (t : Tally). t.foreign) right.counts in
     omega arith
 

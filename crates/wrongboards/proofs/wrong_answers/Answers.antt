@@ -23,7 +23,8 @@ serial h =
 revision : EveryReply (answers_wrong 0x09) → ⊥
 unfolding computing
 revision h =
-    let result : ◌≡◌ {A = ℕ} 0xEE 1 = ap (λ (r : List ℕ). get_or r 2 0) (first-reply (h (small I2c 64) (zeros 64) (sent I2c 0x09 [] ∷ []))) in
+    let result : ◌≡◌ {A = ℕ} 0xEE 1 =
+    ap (λ (r : List ℕ). get_or r 2 0) (first-reply (h (small I2c 64) (zeros 64) (sent I2c 0x09 [] ∷ []))) in
     omega arith
 
 longest : EveryReply (answers_wrong 0x0c) → ⊥
