@@ -68,6 +68,8 @@ def edit(text, names):
 
 
 def page(text, names):
+    """Of a page: words of the bench's scripts are spelled like lemmas, and stay."""
+    names = {a: b for a, b in names.items() if a not in ("set-address", "reset-address", "i2c-read")}
     return SPAN.sub(lambda m: turn(m[0], names), text)
 
 

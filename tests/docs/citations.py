@@ -10,7 +10,7 @@ import re
 import sys
 
 PATH = re.compile(r"[a-z_0-9]+/(specs|src)/\w+")
-NAME = re.compile(r"[A-Za-z]\w*")
+NAME = re.compile(r"[A-Za-z][\w-]*")
 faults = []
 
 
