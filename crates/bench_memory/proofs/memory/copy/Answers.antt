@@ -1,5 +1,5 @@
 -- `bench_memory::memory::copy` is safe and ends.
-use Rattle.std.proofs.Common.{◌-◌, arith, length, length-set}
+use Rattle.std.proofs.Common.{arith, length-set}
 use Rattle.bench_memory.proofs.memory.copy.Goals as goal
 
 pub loop-i-preserved : goal.loop-i-preserved
