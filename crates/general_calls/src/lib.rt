@@ -70,6 +70,6 @@ pub fn write_general(bus: Bus, call: General, out: &mut [u8]) -> usize
 {
     let n = general_length(bus);
     let bytes = form(bus, call);
-    out[..n].copy_from_slice(&bytes[..n]);
+    byte_slices::store(out, 0, &bytes[..n]);
     n
 }

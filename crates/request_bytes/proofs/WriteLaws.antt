@@ -1,29 +1,25 @@
 -- Laws of `Makes`: bytes made at the front of a lent output, more bytes behind them, and their check sum.
-use mathlib.Core.Path.{◌≡◌, sym, ap, ◌∙◌}
-use mathlib.Core.List.{List, ◌++◌, append_assoc, append-nil}
-use Prim.Native.Nat.{ℕ, ◌+◌, ◌-◌, ◌≤◌}
+use mathlib.Core.Path.{◌≡◌, sym, ◌∙◌}
+use mathlib.Core.List.{List, ◌++◌}
+use Prim.Native.Nat.{ℕ, ◌+◌, ◌≤◌}
 use native.Mathlib.Omega.{arith}
-use lib.ListN.{length, take, drop, length-append, length-take, length-drop, drop_of_length-le}
-use lib.Seq.{take-length, take_all, drop-drop}
-use borrow.Rule.Slice.PartMut.{mid_of, put_mid}
+use lib.ListN.{length, take, length-append, length-take}
 use Rattle.rules.specs.declared.kinds.Bus.{Bus}
 use Rattle.rules.specs.CheckSums.{sealed}
+use Rattle.rules.specs.Bytes.{overlay}
 use Rattle.rules.specs.Numbers.{laid}
 use Rattle.laws.proofs.CheckSumLaws.{length-sealed}
-use Rattle.laws.proofs.LaidLaws.{length-laid, take-laid, laid_over, laid-sealed}
+use Rattle.laws.proofs.LaidLaws.{length-laid, overlay_behind, take-laid, laid_over, laid-sealed}
 use Rattle.frame.specs.Seal.{Sealing}
 use Rattle.request_bytes.specs.Making.{Makes}
 
--- a list copied behind the first n
-pub makes_part : (n : ℕ) (out more : List ℕ) {last : List ℕ} → n + length more ≤ length out → last ≡ more
-    → Makes (take n out ++ more) out (put_mid n (n + length more - n) out last) (n + length more)
-makes_part n out more fits same =
-    let many : n + length more - n ≡ length more = omega arith in
-    let long : length (take n out ++ more) ≡ n + length more = simp (length-append, length-take) (omega arith) in
-    record {
-      length_is = sym long;
-      output_is = rw (same, many, long, drop-drop (length more) n out) (sym (append_assoc (take n out) more (drop (n + length more) out)));
-    }
+-- a list stored behind the first n
+pub makes_part : (n : ℕ) (out more : List ℕ) {last : List ℕ} → n + length more ≤ length out → last ≡ overlay out n more
+    → Makes (take n out ++ more) out last (n + length more)
+makes_part n out more fits stored = record {
+  length_is = simp (length-append, length-take) (omega arith);
+  output_is = stored ∙ overlay_behind out more n (omega arith);
+}
 
 module _ {xs before after : List ℕ} {n : ℕ} (made : Makes xs before after n) where
   -- room for k bytes more

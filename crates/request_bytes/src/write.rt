@@ -21,9 +21,8 @@ fn append(out: &mut [u8], n: usize, more: &[u8]) -> usize
     requires { n + length more.now ≤ length out.old }
     ensures { Makes (take n out.old ++ more.now) out.old out.new result }
 {
-    let end = n + more.len();
-    out[n..end].copy_from_slice(more);
-    end
+    byte_slices::store(out, n, more);
+    n + more.len()
 }
 
 // A command with its arguments, which are lent in two parts.

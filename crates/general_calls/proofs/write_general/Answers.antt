@@ -1,19 +1,19 @@
--- `general_calls::write_general` meets its contract: the form's own bytes are copied.
-use Rattle.std.proofs.Common.{◌≡◌, sym, ◌∙◌, arith, length, rules}
-use lib.Seq.{take-length}
+-- `general_calls::write_general` meets its contract: the form's own bytes are stored at the front.
+use Rattle.std.proofs.Common.{◌≡◌, sym, ◌∙◌, take, length}
+use Rattle.laws.proofs.LaidLaws.{overlay-first}
 use Rattle.general_calls.specs.Forms.{general_frame}
-use Rattle.general_calls.proofs.Laws.{general_length-le, length_general}
+use Rattle.general_calls.proofs.Laws.{length_general}
 use Rattle.general_calls.proofs.write_general.Goals as goal
 
-pub slice_bounds-bytes-end : goal.slice_bounds-bytes-end
-slice_bounds-bytes-end c =
-    let four : length c.form-bytes.result ≡ 4 = search rules in
-    omega (arith, c.general_length-n.ensures, general_length-le c.args.bus)
+pub slice_bounds-store-end : goal.slice_bounds-store-end
+slice_bounds-store-end c =
+    let n = c.general_length-n.ensures in
+    n ∙ sym (length_general c.args.bus c.args.call) ∙ rw n (rw c.form-bytes.ensures)
 
 pub returns : goal.returns
 returns c =
     let n : c.general_length-n.result ≡ length (general_frame c.args.bus c.args.call) =
     c.general_length-n.ensures ∙ sym (length_general c.args.bus c.args.call) in
-    let copied : c.copy_from_slice.new.self ≡ general_frame c.args.bus c.args.call =
-    c.copy_from_slice.ensures.after ∙ rw c.general_length-n.ensures c.form-bytes.ensures in
-    (n, rw (copied, n))
+    let front : take c.general_length-n.result c.form-bytes.result ≡ general_frame c.args.bus c.args.call =
+    rw c.general_length-n.ensures c.form-bytes.ensures in
+    (n, rw front at (c.store.ensures ∙ overlay-first _ _))
