@@ -1,5 +1,5 @@
 /*
- * memcpy, memmove and memset, which the library calls: by words where both sides are aligned. To be compiled with
+ * memcpy and memset, which the library calls: by words where both sides are aligned. To be compiled with
  * -fno-tree-loop-distribute-patterns, or the compiler makes these loops calls of themselves.
  */
 #include <stddef.h>
@@ -8,11 +8,12 @@
 typedef uint32_t __attribute__((may_alias)) word;
 
 void *memcpy(void *restrict to, const void *restrict from, size_t len);
-void *memmove(void *to, const void *from, size_t len);
 void *memset(void *to, int value, size_t len);
 
-static void forwards(uint8_t *t, const uint8_t *f, size_t len)
+void *memcpy(void *restrict to, const void *restrict from, size_t len)
 {
+    uint8_t *t = to;
+    const uint8_t *f = from;
     if ((((uintptr_t)t ^ (uintptr_t)f) & 3) == 0) {
         for (; len > 0 && ((uintptr_t)t & 3) != 0; len--)
             *t++ = *f++;
@@ -21,26 +22,6 @@ static void forwards(uint8_t *t, const uint8_t *f, size_t len)
     }
     for (; len > 0; len--)
         *t++ = *f++;
-}
-
-void *memcpy(void *restrict to, const void *restrict from, size_t len)
-{
-    forwards(to, from, len);
-    return to;
-}
-
-void *memmove(void *to, const void *from, size_t len)
-{
-    uint8_t *t = to;
-    const uint8_t *f = from;
-    /* backwards only where the end of from would be overwritten first */
-    if ((uintptr_t)t - (uintptr_t)f >= len)
-        forwards(t, f, len);
-    else
-        while (len > 0) {
-            len--;
-            t[len] = f[len];
-        }
     return to;
 }
 

@@ -4,7 +4,7 @@
                                        (TARGET.fixed.stack, TARGET.alarms.stack); WORD: write or compare
 
 compare prints them, and sees that docs/BENCHMARK.md has the first; write puts both there. The stack in use may exceed the deepest chain of
-frames by what memcpy, memmove, memset and divisions take, and by no more.
+frames by what memcpy, memset and divisions take, and by no more.
 """
 
 import re
@@ -57,7 +57,7 @@ def main():
     first = table(["call"] + columns, [[f"`{call}`"] + [figure for target in targets for figure in
                   (built[target][call][0] + built[target][call][1], built[target][call][2])] for call in calls])
     second = table(["call"] + targets, [[f"`{call}`"] + [used[target][call] for target in targets] for call in calls])
-    in_words = "Stack in use in the fixed cases, bytes; memcpy, memmove, memset and divisions included, the call's own arguments not:\n"
+    in_words = "Stack in use in the fixed cases, bytes; memcpy, memset and divisions included, the call's own arguments not:\n"
     print(f"Code and constants that a call reaches, and its deepest chain of frames, bytes:\n\n{first}\n{in_words}\n{second}")
 
     with open(PAGE, encoding="utf-8") as file:
