@@ -21,7 +21,7 @@ HERE = os.path.dirname(os.path.abspath(__file__))
 RULES = ["model", "sums", "tally", "board", "master", "script", "ledger", "check", "rng", "total", "bits", "half_bytes", "running",
          "silences", "pages", "alarms", "layout", "walks", "finished", "finished_lists", "finished_situations"]
 SECONDS = 60
-WORKERS = 2
+WORKERS = max(2, min(4, os.cpu_count() or 2))
 
 ANSWER_MAIN = """#![allow(dead_code)]
 mod alarms; mod board; mod layout; mod master; mod model; mod script; mod sums; mod tally;
