@@ -2,7 +2,7 @@
 -- that it names as rows 13 to 19; a shorter upload over a longer one as row 20; the edges of the sizes (numbers 2 and 4) as rows 21 to 29;
 -- the edges of the reserved addresses (W1) as rows 30 to 34; version 0.0 and its reset (W4) as rows 35 to 37; why a frame got no reply
 -- (W3) as rows 38 to 41; pages of 128 bytes (W8) as rows 42 to 48.
-use Rattle.std.specs.Prelude.{Bool, true, false, cond, List, [], ◌∷◌, ◌++◌, map, ℕ, ◌+◌, length, take, drop, replicate, get_or}
+use Rattle.std.specs.Prelude.{Bool, true, false, cond, List, [], ◌∷◌, ◌++◌, map, ℕ, ◌+◌, length, take, replicate, get_or}
 use Rattle.rules.specs.declared.kinds.Bus.{Bus}
 use Rattle.rules.specs.declared.kinds.Bus.TheVariants.{I2c, Rs485}
 use Rattle.rules.specs.declared.kinds.Address.TheVariants.{DefaultRange}

@@ -1,15 +1,14 @@
 -- Document 01, "Frames and check sums": requests and replies as bytes on both buses, the addresses of a board, the verdict on a frame.
-use Rattle.std.specs.Prelude.{Bool, true, false, cond, not, ◌&&◌, ◌||◌, List, [], ◌∷◌, ◌++◌, ℕ, ◌+◌, ◌-◌, ◌/◌, ◌%◌, ◌*◌, eqb, leb, ltb, length, take, drop, get_or}
+use Rattle.std.specs.Prelude.{Bool, true, false, cond, not, ◌&&◌, ◌||◌, List, [], ◌∷◌, ◌++◌, ℕ, ◌+◌, ◌/◌, ◌%◌, ◌*◌, eqb, leb, ltb, length, drop, get_or}
 use Rattle.rules.specs.declared.kinds.Bus.{Bus}
 use Rattle.rules.specs.declared.kinds.Bus.TheVariants.{I2c, Rs485}
 use Rattle.rules.specs.declared.kinds.Address.{Address}
 use Rattle.rules.specs.declared.kinds.Address.TheVariants.{DefaultRange, Own}
-use Rattle.rules.specs.declared.kinds.Reason.{Reason}
 use Rattle.rules.specs.declared.kinds.Reason.TheVariants.{Running, Short, Long, WrongSum, Foreign, OtherGeneral}
 use Rattle.rules.specs.declared.kinds.Verdict.{Verdict}
 use Rattle.rules.specs.declared.kinds.Verdict.TheVariants.{Reset, ResetAddress, Ignored, BadTransfer, BadSum, Command}
 use Rattle.rules.specs.Bytes.{same}
-use Rattle.rules.specs.CheckSums.{sum, sum_length, sealed, unsealed, sum_right}
+use Rattle.rules.specs.CheckSums.{sum_length, sealed, unsealed, sum_right}
 
 -- what stands before the command or the status: RS485 the address
 abbrev pub header : Bus → ℕ → List ℕ

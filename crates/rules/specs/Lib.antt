@@ -1,5 +1,6 @@
 -- The meaning of the protocol, in document 01's order. Start at `Profile`; `Board` puts the parts together.
 pub mod Bytes
+pub mod Buses
 pub mod Profile
 pub mod State
 pub mod Commit

@@ -1,21 +1,22 @@
 -- Document 01, "The master": the request encoder, the reply decoder, a reply that is read twice, and the version rule; W4's reset for a
 -- running application. Total over any bus, M, request, reply, version and output length.
-use Rattle.std.specs.Prelude.{Bool, true, false, cond, not, ◌&&◌, ◌||◌, List, [], ◌∷◌, ◌++◌, ℕ, ◌+◌, ◌-◌, eqb, leb, ltb, length, take, drop, get_or}
+use Rattle.std.specs.Prelude.{Result, Ok, Err, Bool, false, cond, not, ◌&&◌, ◌||◌, List, [], ◌∷◌, ◌++◌, ℕ, ◌+◌, ◌-◌, eqb, leb, ltb, length, take, drop, get_or}
 use Rattle.rules.specs.declared.kinds.Bus.{Bus}
 use Rattle.rules.specs.declared.kinds.Bus.TheVariants.{I2c, Rs485}
 use Rattle.rules.specs.declared.requests.Request.{Request}
 use Rattle.rules.specs.declared.requests.Request.TheVariants.{Plain, SetAddress, Write, Read, ResetAddress, Reset}
-use Rattle.rules.specs.declared.requests.Encoded.{Encoded}
-use Rattle.rules.specs.declared.requests.Encoded.TheVariants.{Made, FrameOutOfRange, OutputTooShort, ArgumentOutOfRange}
+use Rattle.rules.specs.declared.requests.EncodeError.{EncodeError}
+use Rattle.rules.specs.declared.requests.EncodeError.TheVariants.{FrameOutOfRange, OutputTooShort, ArgumentOutOfRange}
 use Rattle.rules.specs.declared.requests.Decoded.{Decoded}
 use Rattle.rules.specs.declared.requests.Decoded.TheVariants.{Reply, NotServed, TooShort, SumWrong, OtherAddress, LengthWrong}
 use Rattle.rules.specs.declared.requests.Decoded.TheVariants.{StatusUnknown, ResultsMissing}
 use Rattle.rules.specs.declared.requests.Which.{Which}
 use Rattle.rules.specs.declared.requests.Which.TheVariants.{First, Second, Neither}
 use Rattle.rules.specs.declared.requests.Version.{Version}
-use Rattle.rules.specs.declared.requests.Version.TheVariants.{Known, ApplicationRunning, Unknown}
-use Rattle.rules.specs.declared.requests.RunningReset.{RunningReset}
-use Rattle.rules.specs.declared.requests.RunningReset.TheVariants as resets
+use Rattle.rules.specs.declared.requests.VersionError.{VersionError}
+use Rattle.rules.specs.declared.requests.VersionError.TheVariants.{ApplicationRunning, Unknown}
+use Rattle.rules.specs.declared.requests.ResetError.{ResetError}
+use Rattle.rules.specs.declared.requests.ResetError.TheVariants as resets
 use Rattle.rules.specs.Profile.{frame_in_range}
 use Rattle.rules.specs.CheckSums.{sum_right}
 use Rattle.rules.specs.Frames.{header_length, shortest_request, shortest_reply, two_bytes, request, reset_address_frame, reset_frame}
@@ -30,18 +31,16 @@ pub record Encoding : Type 0 where
   pub bytes : List ℕ
 
 -- the number of each of its answers
-abbrev pub encoded_number : Encoded → ℕ
-encoded_number (Made k) = 0
-encoded_number FrameOutOfRange = 2
-encoded_number OutputTooShort = 6
-encoded_number ArgumentOutOfRange = 7
+abbrev pub encoded_number : Result ℕ EncodeError → ℕ
+encoded_number (Ok k) = 0
+encoded_number (Err FrameOutOfRange) = 2
+encoded_number (Err OutputTooShort) = 6
+encoded_number (Err ArgumentOutOfRange) = 7
 
 -- how many bytes of the lent output an answer says were made
-abbrev pub encoded_length : Encoded → ℕ
-encoded_length (Made k) = k
-encoded_length FrameOutOfRange = 0
-encoded_length OutputTooShort = 0
-encoded_length ArgumentOutOfRange = 0
+abbrev pub encoded_length : Result ℕ EncodeError → ℕ
+encoded_length (Ok k) = k
+encoded_length (Err e) = 0
 
 -- what a request asks: a command with its argument bytes, or one of the two general calls
 pub data Instruction : Type 0 where
@@ -235,10 +234,10 @@ abbrev pub application_running : ℕ
 application_running = 40
 
 -- the number and the values of each of its answers
-abbrev pub ruled_as : Version → Ruled
-ruled_as (Known major minor) = record { number = 0; major = major; minor = minor }
-ruled_as ApplicationRunning = record { number = application_running; major = 0; minor = 0 }
-ruled_as Unknown = record { number = 14; major = 0; minor = 0 }
+abbrev pub ruled_as : Result Version VersionError → Ruled
+ruled_as (Ok v) = record { number = 0; major = v.major; minor = v.minor }
+ruled_as (Err ApplicationRunning) = record { number = application_running; major = 0; minor = 0 }
+ruled_as (Err Unknown) = record { number = 14; major = 0; minor = 0 }
 
 -- a higher minor counts as the highest known
 abbrev pub capped : ℕ → ℕ → ℕ
@@ -255,20 +254,17 @@ version_rule major minor =
 -- the reset for a running application
 
 -- the number of each of its answers
-abbrev pub reset_number : RunningReset → ℕ
-reset_number (resets.Made k) = 0
-reset_number resets.VersionKnown = 1
-reset_number resets.FrameOutOfRange = 2
-reset_number resets.VersionUnknown = 14
-reset_number resets.OutputTooShort = 6
+abbrev pub reset_number : Result ℕ ResetError → ℕ
+reset_number (Ok k) = 0
+reset_number (Err resets.VersionKnown) = 1
+reset_number (Err resets.FrameOutOfRange) = 2
+reset_number (Err resets.VersionUnknown) = 14
+reset_number (Err resets.OutputTooShort) = 6
 
 -- how many bytes of the lent output an answer says were made
-abbrev pub reset_length : RunningReset → ℕ
-reset_length (resets.Made k) = k
-reset_length resets.VersionKnown = 0
-reset_length resets.FrameOutOfRange = 0
-reset_length resets.VersionUnknown = 0
-reset_length resets.OutputTooShort = 0
+abbrev pub reset_length : Result ℕ ResetError → ℕ
+reset_length (Ok k) = k
+reset_length (Err e) = 0
 
 -- W4: 2 (M only), 14, 1 for a known version; for a running application the encoder's general-call reset, with its 6 and 0
 unfoldable pub running_reset : Bus → ℕ → ℕ → ℕ → ℕ → Encoding

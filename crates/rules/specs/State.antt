@@ -1,9 +1,9 @@
 -- Document 01, "Profile and sizes": the state of a board, without the bytes that mean nothing, and the malformed-state rule (number 4).
-use Rattle.std.specs.Prelude.{Bool, true, false, ◌&&◌, List, [], ◌++◌, ℕ, ◌-◌, ◌%◌, eqb, leb, length, take, replicate}
+use Rattle.std.specs.Prelude.{Bool, false, ◌&&◌, List, [], ◌++◌, ℕ, ◌-◌, ◌%◌, eqb, leb, length, take, replicate}
 use Rattle.rules.specs.declared.kinds.Bus.{Bus}
 use Rattle.rules.specs.declared.kinds.Bus.TheVariants.{I2c, Rs485}
 use Rattle.rules.specs.declared.kinds.Address.{Address}
-use Rattle.rules.specs.declared.kinds.Address.TheVariants.{DefaultRange, Own}
+use Rattle.rules.specs.declared.kinds.Address.TheVariants.{DefaultRange}
 use Rattle.rules.specs.Profile.{Profile}
 
 pub record Upload : Type 0 where

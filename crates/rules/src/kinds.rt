@@ -1,21 +1,42 @@
 // What a board or a master tells apart by name: the bus, the addresses of a board, the verdict on a frame, the answers of the calls.
 
+ghost use Rattle.rules.specs.Buses.{BusNumbered};
+
 // Document 01, "bus": I²C or RS485.
-#[derive(Clone, Copy)]
+#[derive(Clone, Copy, Debug, PartialEq, Eq)]
 pub enum Bus {
     I2c,
     Rs485,
 }
 
+// A number that no bus has.
+#[derive(Clone, Copy, Debug, PartialEq, Eq)]
+pub struct UnknownBus(pub u32);
+
+// 0 is I²C, 1 RS485.
+impl TryFrom<u32> for Bus {
+    type Error = UnknownBus;
+
+    ghost try_from_gives = { BusNumbered };
+
+    fn try_from(number: u32) -> Result<Self, UnknownBus> {
+        match number {
+            0 => Ok(Bus::I2c),
+            1 => Ok(Bus::Rs485),
+            _ => Err(UnknownBus(number)),
+        }
+    }
+}
+
 // Document 01, "own address or default range".
-#[derive(Clone, Copy)]
+#[derive(Clone, Copy, Debug, PartialEq, Eq)]
 pub enum Address {
     DefaultRange,
     Own(u8),
 }
 
 // Why a frame gets no reply and changes nothing.
-#[derive(Clone, Copy)]
+#[derive(Clone, Copy, Debug, PartialEq, Eq)]
 pub enum Reason {
     // Any frame but the reset while the application runs.
     Running,
@@ -32,7 +53,7 @@ pub enum Reason {
 }
 
 // What a received frame is to a board, before its answer's number.
-#[derive(Clone, Copy)]
+#[derive(Clone, Copy, Debug, PartialEq, Eq)]
 pub enum Verdict {
     // The second general call: reset.
     Reset,
@@ -49,7 +70,7 @@ pub enum Verdict {
 }
 
 // The answers of a board call.
-#[derive(Clone, Copy)]
+#[derive(Clone, Copy, Debug, PartialEq, Eq)]
 pub enum Outcome {
     // A reply of so many bytes stands in the lent buffer.
     Reply(usize),

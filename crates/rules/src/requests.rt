@@ -1,7 +1,7 @@
 // What the master's calls take and answer. Each variant of an answer stands for one of document 01's numbers.
 
 // A request to encode, with just the arguments that it has; a write's data bytes are lent beside it.
-#[derive(Clone, Copy)]
+#[derive(Clone, Copy, Debug, PartialEq, Eq)]
 pub enum Request {
     // A command with no arguments, by its code.
     Plain(usize),
@@ -17,11 +17,9 @@ pub enum Request {
     Reset,
 }
 
-// The answers of the encoder.
-#[derive(Clone, Copy)]
-pub enum Encoded {
-    // 0: a request of so many bytes stands in the lent output.
-    Made(usize),
+// Why the encoder makes no request; else its answer is 0, and a request of so many bytes stands in the lent output.
+#[derive(Clone, Copy, Debug, PartialEq, Eq)]
+pub enum EncodeError {
     // 2, of M alone.
     FrameOutOfRange,
     // 6
@@ -30,8 +28,8 @@ pub enum Encoded {
     ArgumentOutOfRange,
 }
 
-// The answers of the decoder.
-#[derive(Clone, Copy)]
+// The answers of the decoder. One enum of the reply and its refusals, which `let .. else` opens: the form that the project names for it.
+#[derive(Clone, Copy, Debug, PartialEq, Eq)]
 pub enum Decoded {
     // 0: a status, and where the results lie in the lent reply.
     Reply {
@@ -56,29 +54,32 @@ pub enum Decoded {
 }
 
 // Which of two reads of one reply the results are a part of.
-#[derive(Clone, Copy)]
+#[derive(Clone, Copy, Debug, PartialEq, Eq)]
 pub enum Which {
     First,
     Second,
     Neither,
 }
 
-// The answers of the version rule.
-#[derive(Clone, Copy)]
-pub enum Version {
-    // 0: the version that it counts as.
-    Known { major: u8, minor: u8 },
+// A version of the protocol.
+#[derive(Clone, Copy, Debug, PartialEq, Eq)]
+pub struct Version {
+    pub major: u8,
+    pub minor: u8,
+}
+
+// Why the version rule knows no version; else its answer is 0, and the version that a board's answer counts as.
+#[derive(Clone, Copy, Debug, PartialEq, Eq)]
+pub enum VersionError {
     // 40: 0.0, an application's.
     ApplicationRunning,
     // 14
     Unknown,
 }
 
-// The answers of the reset for a running application.
-#[derive(Clone, Copy)]
-pub enum RunningReset {
-    // 0: a reset of so many bytes stands in the lent output.
-    Made(usize),
+// Why no reset is written for a running application; else the answer is 0, and a reset of so many bytes stands in the lent output.
+#[derive(Clone, Copy, Debug, PartialEq, Eq)]
+pub enum ResetError {
     // 1: the bootloader runs; there is nothing to write.
     VersionKnown,
     // 2, of M alone.
