@@ -7,6 +7,7 @@ ghost use Rattle.rules.specs.Frames.{two_bytes, number_at};
 ghost use Rattle.byte_slices.specs.Four.{four_at, four_bytes};
 
 // Whether two slices hold the same bytes.
+// No chain: `next` gives a tag and a pointer, which lie otherwise at 32 bits (scripts/firmware). No `==`: 2 KB of code more there.
 pub fn matches(a: &[u8], b: &[u8]) -> bool
     ensures { result ≡ same a.now b.now }
 {
@@ -14,10 +15,8 @@ pub fn matches(a: &[u8], b: &[u8]) -> bool
         return false;
     }
     let mut equal = true;
-    let mut i = 0;
-    while i < a.len() {
-        equal = equal & (a[i] == b[i]);
-        i += 1;
+    for (i, x) in a.iter().enumerate() {
+        equal = equal & (*x == b[i]);
     }
     equal
 }
@@ -27,10 +26,8 @@ pub fn store(d: &mut [u8], at: usize, bytes: &[u8])
     requires { at + length bytes.now ≤ length d.old }
     ensures { d.new ≡ overlay d.old at bytes.now }
 {
-    let mut i = 0;
-    while i < bytes.len() {
-        d[at + i] = bytes[i];
-        i += 1;
+    for (i, byte) in bytes.iter().enumerate() {
+        d[at + i] = *byte;
     }
 }
 
@@ -38,7 +35,7 @@ pub fn store(d: &mut [u8], at: usize, bytes: &[u8])
 pub fn wide(x: u8) -> usize
     ensures { (result ≡ x) × (result ≤ 255) }
 {
-    x as usize
+    usize::from(x)
 }
 
 // The number that two bytes from a place on stand for, high byte first.
@@ -46,7 +43,7 @@ pub fn number_at(b: &[u8], at: usize) -> usize
     requires { at + 2 ≤ length b.now }
     ensures { (result ≡ number_at b.now at) × (result ≤ 65535) }
 {
-    wide(b[at]) * 256 + wide(b[at + 1])
+    usize::from(u16::from_be_bytes([b[at], b[at + 1]]))
 }
 
 // A number in two bytes, high byte first.
@@ -54,14 +51,14 @@ pub fn two_bytes(n: usize) -> [u8; 2]
     requires { n ≤ 65535 }
     ensures { result ≡ two_bytes n }
 {
-    [(n / 256 % 256) as u8, (n % 256) as u8]
+    (n as u16).to_be_bytes()
 }
 
 // The same, low byte first.
 pub fn low_first(n: u16) -> [u8; 2]
     ensures { result ≡ low_first n }
 {
-    [(n % 256) as u8, (n / 256) as u8]
+    n.to_le_bytes()
 }
 
 // The number that four bytes from a place on stand for, low byte first.
@@ -69,7 +66,7 @@ pub fn four_at(b: &[u8], at: usize) -> usize
     requires { at + 4 ≤ length b.now }
     ensures { result ≡ four_at b.now at }
 {
-    wide(b[at]) + wide(b[at + 1]) * 256 + wide(b[at + 2]) * 65536 + wide(b[at + 3]) * 16777216
+    u32::from_le_bytes([b[at], b[at + 1], b[at + 2], b[at + 3]]) as usize
 }
 
 // Writes a number into four bytes from a place on, low byte first; what does not fit them is dropped.
@@ -77,11 +74,6 @@ pub fn store_four(b: &mut [u8], at: usize, n: usize)
     requires { at + 4 ≤ length b.old }
     ensures { b.new ≡ overlay b.old at (four_bytes n) }
 {
-    let bytes = [
-        (n % 256) as u8,
-        (n / 256 % 256) as u8,
-        (n / 65536 % 256) as u8,
-        (n / 16777216 % 256) as u8,
-    ];
+    let bytes = ((n % 0x1_0000_0000) as u32).to_le_bytes();
     store(b, at, &bytes);
 }
