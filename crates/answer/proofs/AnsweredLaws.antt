@@ -23,11 +23,10 @@ use Rattle.response.specs.Done.{CommandEffect, Commanded}
 use Rattle.answer.specs.declared.Answer.{Answer}
 use Rattle.answer.specs.Answered.{ignored_outcome, CallEffect, call_effect, expected_effect, Answered}
 use Rattle.answer.specs.Answered.{ReadAnswered}
-use Rattle.answer.specs.declared.HeadAnswer.{HeadAnswer}
 use Rattle.answer.specs.HeadAnswered.{silent, head_effect, HeadAnswered}
 
 -- a call that is not refused makes no promise about bytes that mean nothing
-pub answered : (s : State) (r : Answer) (d out before : List ℕ) (c : Called) → call_effect r d out ≡ expected_effect c before
+pub answered : (s : State) (r : Answer State) (d out before : List ℕ) (c : Called) → call_effect r d out ≡ expected_effect c before
     → c.number ≤ 1 → Answered s r d out before c
 answered s r d out before c e small =
     record {
@@ -37,7 +36,7 @@ answered s r d out before c e small =
     }
 
 -- a read promises more
-pub read_answered_lem : {s : State} {r : Answer} {d out before : List ℕ} {c : Called} → ReadAnswered s r d out before c
+pub read_answered_lem : {s : State} {r : Answer State} {d out before : List ℕ} {c : Called} → ReadAnswered s r d out before c
     → Answered s r d out before c
 read_answered_lem h = record { called = h.called; untouched = λ two. h.state_is }
 
@@ -54,7 +53,7 @@ silent_effect bus h w l d out = rw (kept_reply_none bus l)
 
 -- an ignored frame is answered by its number, and leaves all untouched
 pub ignored_effect : (bus : Bus) (reason : Reason) (h : Head) (w l d out : List ℕ)
-    → head_effect bus (record { outcome = ignored_outcome reason; head = h }) w l d out
+    → head_effect bus (record { outcome = ignored_outcome reason; state = h }) w l d out
     ≡ expected_effect (refused (ignored_number reason) (view (state_with h w l)) d) out
 ignored_effect bus Running h w l d out = rw (kept_reply_none bus l)
 ignored_effect bus Short h w l d out = rw (kept_reply_none bus l)
@@ -75,13 +74,13 @@ finished_call-upload bus to a = go bus a.response
     go Rs485 NoReply = refl
 
 -- a command's response as an answer: as many bytes wait as the command left
-pub responded : (bus : Bus) (to : ℕ) (done : Done) (r : HeadAnswer) (w w' d out out' o : List ℕ) (at : ℕ) (a : List ℕ → Acted)
+pub responded : (bus : Bus) (to : ℕ) (done : Done) (r : Answer Head) (w w' d out out' o : List ℕ) (at : ℕ) (a : List ℕ → Acted)
     → Commanded done w w' d out a o at
     → ((l : List ℕ) → head_effect bus r w' l d out' ≡ expected_effect (finished_call bus to (a l)) o)
     → HeadAnswered bus r w w' d out' o (λ l. finished_call bus to (a l))
 responded bus to done r w w' d out out' o at a commanded told =
-    let same : r.head.counts.held ≡ done.head.counts.held =
-    used_many r.head.counts.held done.head.counts.held w' w'
+    let same : r.state.counts.held ≡ done.head.counts.held =
+    used_many r.state.counts.held done.head.counts.held w' w'
     (ap (λ (x : CallEffect). x.state.upload.waiting) (told [])
     ∙ ap (λ (u : rules.Upload). u.waiting) (finished_call-upload bus to (a []))
     ∙ sym (ap (λ (x : CommandEffect). x.state.upload.waiting) (commanded.ruled []))) in

@@ -33,7 +33,7 @@ pub record CallEffect : Type 0 where
   pub out : List ℕ
 
 -- what a call answered and left
-abbrev pub call_effect : Answer → List ℕ → List ℕ → CallEffect
+abbrev pub call_effect : Answer State → List ℕ → List ℕ → CallEffect
 call_effect r d out = record { number = number r.outcome; made = made r.outcome; state = view r.state; flash = d; out = out }
 
 -- what the rules say of it: the reply stands in the first bytes of the lent buffer, its rest is untouched
@@ -42,19 +42,19 @@ expected_effect c out =
     record { number = c.number; made = length c.reply; state = c.state; flash = c.flash; out = laid c.reply out }
 
 -- a call on the state s answered r, and left the flash d and the buffer out, which was before
-pub record Answered (s : State) (r : Answer) (d out before : List ℕ) (c : Called) : Type 0 where
+pub record Answered (s : State) (r : Answer State) (d out before : List ℕ) (c : Called) : Type 0 where
   -- of the state its view: after 0 and 1 the bytes that mean nothing are left open
   pub called : call_effect r d out ≡ expected_effect c before
   -- refused by 2 or above: the very state that was given, bytes that mean nothing too
   pub untouched : 2 ≤ number r.outcome → r.state ≡ s
 
 -- a received frame of verdict v
-pub record FrameAnswered (s : State) (r : Answer) (d out before : List ℕ) (c : Called) (v : Verdict) : Type 0 where
+pub record FrameAnswered (s : State) (r : Answer State) (d out before : List ℕ) (c : Called) (v : Verdict) : Type 0 where
   pub answered : Answered s r d out before c
   -- ignored: the very state that was given, bytes that mean nothing too
   pub ignored_kept : ignored v ≡ true → r.state ≡ s
 
 -- an I²C read: whatever its number, the very state that was given, bytes that mean nothing too
-pub record ReadAnswered (s : State) (r : Answer) (d out before : List ℕ) (c : Called) : Type 0 where
+pub record ReadAnswered (s : State) (r : Answer State) (d out before : List ℕ) (c : Called) : Type 0 where
   pub called : call_effect r d out ≡ expected_effect c before
   pub state_is : r.state ≡ s

@@ -9,36 +9,30 @@ ghost use Rattle.rules.specs.Responses.{Acted};
 ghost use Rattle.rules.specs.Board.{finished_call};
 ghost use Rattle.state.specs.View.{view};
 ghost use Rattle.state.specs.Heads.{state_with, kept_reply};
+ghost use Rattle.response.specs.Codes.{status_code};
 ghost use Rattle.response.specs.Done as buffered;
 ghost use Rattle.answer.specs.Answered.{ignored_outcome, expected_effect};
 ghost use Rattle.answer.specs.HeadAnswered.{silent, head_effect, Fits};
 
 use frame::reply::close;
-use response::{Done, Response};
+use response::{Done, Response, Status};
 use rules::kinds::{Bus, Outcome, Reason};
 use state::{Head, State};
 
-// What a board call answers, and the state after it.
+// What a board call answers, and the state after it. Inside a call, the head of the state alone.
 #[derive(Clone, Copy)]
-pub struct Answer {
+pub struct Answer<S = State> {
     pub outcome: Outcome,
-    pub state: State,
-}
-
-// The same with the head of the state alone.
-#[derive(Clone, Copy)]
-pub struct HeadAnswer {
-    pub outcome: Outcome,
-    pub head: Head,
+    pub state: S,
 }
 
 // Nothing to send.
-pub fn no_reply(h: Head) -> HeadAnswer
+pub fn no_reply(h: Head) -> Answer<Head>
     ensures { result ≡ silent h }
 {
-    HeadAnswer {
+    Answer {
         outcome: Outcome::Nothing,
-        head: h,
+        state: h,
     }
 }
 
@@ -60,38 +54,37 @@ pub fn ignored_outcome(reason: Reason) -> Outcome
 }
 
 // The response of a command as an answer: the reply in the lent buffer, and on I²C its length in the head.
-pub fn respond(bus: Bus, to: u8, done: Done, out: &mut [u8]) -> HeadAnswer
+pub fn respond(bus: Bus, to: u8, done: Done, out: &mut [u8]) -> Answer<Head>
     requires { Fits bus (length out.old) done.response }
     ensures { (a : Acted) (w l d o : List ℕ)
         → length o ≡ length out.old → buffered.command_effect done w l d out.old
         ≡ buffered.ruled_command a o (header_length bus + 2)
         → head_effect bus result w l d out.new ≡ expected_effect (finished_call bus to a) o }
 {
-    let response = done.response;
     let head = done.head;
-    match response {
-        Response::Reply { status, count } => {
-            let n = close(bus, to, status, count, out);
-            HeadAnswer {
+    match done.response {
+        Some(response) => {
+            let n = close(bus, to, response.status, response.count, out);
+            Answer {
                 outcome: Outcome::Reply(n),
-                head: head.with_reply(bus, n),
+                state: head.with_reply(bus, n),
             }
         }
-        Response::NoReply => HeadAnswer {
-            outcome: Outcome::Nothing,
-            head: head.without_reply(),
-        },
+        None => no_reply(head.without_reply()),
     }
 }
 
 // A status with no results; the state stays.
-pub fn fault(bus: Bus, to: u8, h: Head, status: u8, out: &mut [u8]) -> HeadAnswer
+pub fn fault(bus: Bus, to: u8, h: Head, status: Status, out: &mut [u8]) -> Answer<Head>
     requires { 32 ≤ length out.old }
     ensures { (w l d : List ℕ) → head_effect bus result w l d out.new
-        ≡ expected_effect (finished_call bus to (responses.replying (view (state_with h w l)) d status [])) out.old }
+        ≡ expected_effect (finished_call bus to (responses.replying (view (state_with h w l)) d (status_code status) [])) out.old }
 {
     let done = Done {
-        response: Response::Reply { status, count: 0 },
+        response: Some(Response {
+            status: status.code(),
+            count: 0,
+        }),
         head: h,
     };
     respond(bus, to, done, out)

@@ -28,7 +28,7 @@ use Rattle.state.specs.View.{view}
 use Rattle.state.specs.Heads.{state_with, kept_reply}
 use Rattle.profile.specs.declared.Profile.{Profile}
 use Rattle.profile.specs.View.{profile_of}
-use Rattle.answer.specs.declared.HeadAnswer.{HeadAnswer}
+use Rattle.answer.specs.declared.Answer.{Answer}
 use Rattle.answer.specs.Answered.{CallEffect, expected_effect}
 use Rattle.answer.specs.HeadAnswered.{head_effect, Handled}
 
@@ -62,7 +62,7 @@ verdict_of p h a f = verdict p.bus p.longest h.running h.address a f
 
 module _ (p : Profile) (h : Head) (w flash out : List ℕ) (a : ℕ) (f : List ℕ)
     (none : (l : List ℕ) → refusal (profile_of p) (view (state_with h w l)) (length flash) (length out) ≡ 0)
-    (r : HeadAnswer) (w' d out' : List ℕ)
+    (r : Answer Head) (w' d out' : List ℕ)
     (told : Handled p.bus h r w w' d out' out
     (λ l. handled (profile_of p) (view (state_with h w l)) a f flash (verdict_of p h a f)) (verdict_of p h a f)) where
   -- it is the rules' call
@@ -96,13 +96,13 @@ module _ (p : Profile) (h : Head) (w flash out : List ℕ) (a : ℕ) (f : List �
 
   -- bytes behind the last reply stay
   pub handled_behind : (l : List ℕ)
-      → drop r.head.len (kept_reply p.bus (take (made r.outcome) out') l) ≡ drop r.head.len l
+      → drop r.state.len (kept_reply p.bus (take (made r.outcome) out') l) ≡ drop r.state.len l
   handled_behind l = go p.bus refl
     where
       -- the head has the reply's length
-      kept_made : p.bus ≡ I2c → ignored (verdict_of p h a f) ≡ false → r.head.len ≡ made r.outcome
+      kept_made : p.bus ≡ I2c → ignored (verdict_of p h a f) ≡ false → r.state.len ≡ made r.outcome
       kept_made i2c e =
-          sym (length-used r.head.len (kept_reply p.bus (take (made r.outcome) out') []))
+          sym (length-used r.state.len (kept_reply p.bus (take (made r.outcome) out') []))
           ∙ ap (λ (x : CallEffect). length x.state.last) (told.answered.called [])
           ∙ ap length (handled_last (profile_of p) (view (state_with h w [])) a f flash i2c (verdict_of p h a f) e)
           ∙ sym (ap (λ (x : CallEffect). x.made) (told.answered.called []))
@@ -115,12 +115,12 @@ module _ (p : Profile) (h : Head) (w flash out : List ℕ) (a : ℕ) (f : List �
           let reply = (received (profile_of p) (view (state_with h w [])) a f flash (length out)).reply in
           length-take-le _ _ (rw (made_is, out_is) (omega (arith, length-append reply (drop (length reply) out))))
 
-      go : (bus : Bus) → p.bus ≡ bus → drop r.head.len (kept_reply bus (take (made r.outcome) out') l) ≡ drop r.head.len l
+      go : (bus : Bus) → p.bus ≡ bus → drop r.state.len (kept_reply bus (take (made r.outcome) out') l) ≡ drop r.state.len l
       go Rs485 e = refl
       go I2c e =
           by_test (ignored (verdict_of p h a f))
           (λ ignoring. rw (ignored-made ignoring))
           (λ heard.
           let xs = take (made r.outcome) out' in
-          let place : r.head.len ≡ length xs + 0 = omega (arith, kept_made e heard, long) in
+          let place : r.state.len ≡ length xs + 0 = omega (arith, kept_made e heard, long) in
           rw place (drop-laid xs l 0))

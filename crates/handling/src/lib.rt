@@ -5,15 +5,15 @@ ghost use Rattle.std.specs.Prelude.{◌≡◌, List, ℕ, length};
 ghost use Rattle.rules.specs.Numbers.{Unrefused};
 ghost use Rattle.rules.specs.Frames as frames;
 ghost use Rattle.rules.specs.Board.{handled};
-ghost use Rattle.state.specs.View.{largest_page, view};
+ghost use Rattle.state.specs.View.{view};
 ghost use Rattle.state.specs.Heads.{state_with};
 ghost use Rattle.profile.specs.View.{profile_of};
 ghost use Rattle.answer.specs.HeadAnswered.{Handled};
 
-use answer::{HeadAnswer, fault, ignored_outcome, no_reply};
+use answer::{Answer, fault, ignored_outcome, no_reply};
 use frame::request::destination;
 use profile::Profile;
-use response::{INVALID_CRC, INVALID_TRANSFER};
+use response::Status;
 use rules::kinds::Verdict;
 use serve::serve;
 use state::{Head, State};
@@ -24,12 +24,11 @@ pub fn handle(
     h: Head,
     address: u8,
     frame: &[u8],
-    waiting: &mut [u8],
+    waiting: &mut [u8; State::LARGEST_PAGE],
     flash: &mut [u8],
     out: &mut [u8],
-) -> HeadAnswer
+) -> Answer<Head>
     requires by_index { (w l : List ℕ) → Unrefused (profile_of p) (view (state_with h w l)) (length flash.old) (length out.old) }
-    requires waiting_len { length waiting.old ≡ largest_page }
     ensures { Handled p.bus h result waiting.old waiting.new flash.new out.new out.old
         (λ l. handled (profile_of p) (view (state_with h waiting.old l)) address frame.now flash.old
         (frames.verdict p.bus p.longest h.running h.address address frame.now))
@@ -41,18 +40,24 @@ pub fn handle(
     match v {
         Verdict::Reset => no_reply(State::fresh().head()),
         Verdict::ResetAddress => no_reply(h.address_reset()),
-        Verdict::Ignored(reason) => HeadAnswer {
+        Verdict::Ignored(reason) => Answer {
             outcome: ignored_outcome(reason),
-            head: h,
+            state: h,
         },
         Verdict::BadTransfer => fault(
             bus,
             destination(bus, address, frame),
             h,
-            INVALID_TRANSFER,
+            Status::InvalidTransfer,
             out,
         ),
-        Verdict::BadSum => fault(bus, destination(bus, address, frame), h, INVALID_CRC, out),
+        Verdict::BadSum => fault(
+            bus,
+            destination(bus, address, frame),
+            h,
+            Status::InvalidCrc,
+            out,
+        ),
         Verdict::Command => serve(p, h, address, frame, waiting, flash, out),
     }
 }

@@ -11,7 +11,7 @@ ghost use Rattle.response.specs.Done.{command_effect, ruled_command};
 
 use byte_slices::two_bytes;
 use profile::Profile;
-use response::{COMMAND_NOT_SUPPORTED, Done, OK, reply};
+use response::{Done, Status, reply};
 use state::Head;
 
 // 0x00 version: results 2, 2.
@@ -20,7 +20,7 @@ pub fn version(h: Head, out: &mut [u8], at: usize) -> Done
     ensures { (w l d : List ℕ) → command_effect result w l d out.new
         ≡ ruled_command (replying (view (state_with h w l)) d ok (2 ∷ 2 ∷ [])) out.old at }
 {
-    reply(h, OK, &[2, 2], out, at)
+    reply(h, Status::Ok, &[2, 2], out, at)
 }
 
 // 0x03 hardware info: type and compatible revision, bootloader version, two-byte S.
@@ -32,7 +32,7 @@ pub fn hardware_info(p: Profile, h: Head, out: &mut [u8], at: usize) -> Done
     let size = two_bytes(p.size);
     reply(
         h,
-        OK,
+        Status::Ok,
         &[p.hardware, p.compatible, p.version, size[0], size[1]],
         out,
         at,
@@ -47,10 +47,10 @@ pub fn serial(p: Profile, h: Head, out: &mut [u8], at: usize) -> Done
 {
     let len = p.seriallen;
     if len == 0 {
-        return reply(h, COMMAND_NOT_SUPPORTED, &[], out, at);
+        return reply(h, Status::CommandNotSupported, &[], out, at);
     }
     let bytes = p.serial;
-    reply(h, OK, &bytes[..len], out, at)
+    reply(h, Status::Ok, &bytes[..len], out, at)
 }
 
 // 0x09 actual revision.
@@ -59,5 +59,5 @@ pub fn revision(p: Profile, h: Head, out: &mut [u8], at: usize) -> Done
     ensures { (w l d : List ℕ) → command_effect result w l d out.new
         ≡ ruled_command (replying (view (state_with h w l)) d ok (p.actual ∷ [])) out.old at }
 {
-    reply(h, OK, &[p.actual], out, at)
+    reply(h, Status::Ok, &[p.actual], out, at)
 }

@@ -11,7 +11,7 @@ ghost use Rattle.response.specs.Done.{command_effect, ruled_command, Serving};
 
 use byte_slices::{number_at, wide};
 use profile::Profile;
-use response::{Done, INVALID_ARGUMENTS, OK, reply};
+use response::{Done, Status, reply};
 use rules::kinds::Bus;
 use state::Head;
 
@@ -33,13 +33,13 @@ pub fn read(p: Profile, h: Head, args: &[u8], flash: &[u8], out: &mut [u8], at: 
     let address = number_at(args, 0);
     let n = wide(args[2]);
     if p.size < address + n {
-        return reply(h, INVALID_ARGUMENTS, &[], out, at);
+        return reply(h, Status::InvalidArguments, &[], out, at);
     }
     let bus = p.bus;
     if longest_results(bus, p.longest) < n {
-        return reply(h, INVALID_ARGUMENTS, &[], out, at);
+        return reply(h, Status::InvalidArguments, &[], out, at);
     }
     let start = p.offset + address;
     let end = start + n;
-    reply(h, OK, &flash[start..end], out, at)
+    reply(h, Status::Ok, &flash[start..end], out, at)
 }

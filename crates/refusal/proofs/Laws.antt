@@ -1,9 +1,10 @@
--- What `refuse` tells its caller: `Passed`, that none of the numbers 2 to 5 applies; `Refused`, which of them does. Above that, what its
+-- What `refuse` tells its caller: `Ok`, that none of the numbers 2 to 5 applies; `Err`, which of them does. Above that, what its
 -- own proofs cite.
 use mathlib.Core.Path.{◌≡◌, refl, sym, ap, ◌∙◌}
 use mathlib.Core.Bool.{Bool, true, false, cond, not}
 use Prim.Native.Nat.{ℕ, ◌+◌, ◌-◌, ◌≤◌}
 use native.Mathlib.Omega.{arith}
+use Rattle.std.specs.Prelude.{Ok, Err}
 use lib.Dec.{eqb, ltb}
 use borrow.Author.Tests.{ltb-true, ltb-false, lt-ltb, le-ltb}
 use Rattle.rules.specs.declared.kinds.Outcome.{Outcome}
@@ -11,7 +12,6 @@ use Rattle.rules.specs.declared.kinds.Outcome.TheVariants.{ProfileOutOfRange, Fl
 use Rattle.rules.specs.Profile.{Profile, in_range}
 use Rattle.rules.specs.State.{State, well_formed}
 use Rattle.rules.specs.Numbers.{number, made, flash_short, buffer_short, refusal}
-use Rattle.refusal.specs.declared.Check.TheVariants.{Passed, Refused}
 use Rattle.refusal.specs.Checks.{check_of}
 
 -- a difference is below a number exactly where what it is taken from is below the sum
@@ -37,11 +37,11 @@ first_of outOfRange short malformed small = cond outOfRange 2 (cond short 3 (con
 
 module _ (p : Profile) (s : State) (flash buffer : ℕ) where
   -- the call goes on: what holds then is `refusal_unrefused` of rules
-  pub check_passed : check_of (refusal p s flash buffer) ≡ Passed → refusal p s flash buffer ≡ 0
+  pub check_passed : check_of (refusal p s flash buffer) ≡ Ok tt → refusal p s flash buffer ≡ 0
   unfolding refusal check_of
   check_passed = go (not (in_range p)) (flash_short p flash) (not (well_formed p s)) (buffer_short p buffer)
     where
-      go : (a b c d : Bool) → check_of (first_of a b c d) ≡ Passed → first_of a b c d ≡ 0
+      go : (a b c d : Bool) → check_of (first_of a b c d) ≡ Ok tt → first_of a b c d ≡ 0
       go true b c d e = cc
       go false true c d e = cc
       go false false true d e = cc
@@ -49,11 +49,11 @@ module _ (p : Profile) (s : State) (flash buffer : ℕ) where
       go false false false false e = refl
 
   -- the call is refused
-  pub check_refused : (o : Outcome) → check_of (refusal p s flash buffer) ≡ Refused o → Refusal (refusal p s flash buffer) o
+  pub check_refused : (o : Outcome) → check_of (refusal p s flash buffer) ≡ Err o → Refusal (refusal p s flash buffer) o
   unfolding refusal check_of
   check_refused o = go (not (in_range p)) (flash_short p flash) (not (well_formed p s)) (buffer_short p buffer)
     where
-      go : (a b c d : Bool) → check_of (first_of a b c d) ≡ Refused o → Refusal (first_of a b c d) o
+      go : (a b c d : Bool) → check_of (first_of a b c d) ≡ Err o → Refusal (first_of a b c d) o
       go true b c d e = refusal_by {o = ProfileOutOfRange} refl refl (cc)
       go false true c d e = refusal_by {o = FlashTooShort} refl refl (cc)
       go false false true d e = refusal_by {o = StateMalformed} refl refl (cc)

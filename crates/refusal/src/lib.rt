@@ -31,28 +31,21 @@ pub fn buffer_short(p: Profile, len: usize) -> bool
     len < p.longest
 }
 
-// Whether a board call goes on, or its answer.
-#[derive(Clone, Copy)]
-pub enum Check {
-    Passed,
-    Refused(Outcome),
-}
-
-// Order of a board call's tests: 2, 3, 4, 5; each may rely on those before it.
-pub fn refuse(p: Profile, h: Head, flash: usize, buffer: usize) -> Check
+// Whether a board call goes on, or its answer. Order of its tests: 2, 3, 4, 5; each may rely on those before it.
+pub fn refuse(p: Profile, h: Head, flash: usize, buffer: usize) -> Result<(), Outcome>
     ensures { (w l : List ℕ) → result ≡ check_of (refusal (profile_of p) (view (state_with h w l)) flash buffer) }
 {
     if !in_range(p) {
-        return Check::Refused(Outcome::ProfileOutOfRange);
+        return Err(Outcome::ProfileOutOfRange);
     }
     if flash_short(p, flash) {
-        return Check::Refused(Outcome::FlashTooShort);
+        return Err(Outcome::FlashTooShort);
     }
     if !well_formed(p, h) {
-        return Check::Refused(Outcome::StateMalformed);
+        return Err(Outcome::StateMalformed);
     }
     if buffer_short(p, buffer) {
-        return Check::Refused(Outcome::BufferTooShort);
+        return Err(Outcome::BufferTooShort);
     }
-    Check::Passed
+    Ok(())
 }

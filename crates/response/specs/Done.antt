@@ -1,6 +1,6 @@
 -- What a command function leaves: its response, the state, the flash, and the results in the lent buffer from a place on. The state is the
 -- head that it hands back, with the buffers w of the waiting bytes and l of the last reply.
-use Rattle.std.specs.Prelude.{List, ℕ, ◌+◌, ◌≤◌, ◌≡◌, length, drop}
+use Rattle.std.specs.Prelude.{Option, Some, None, List, ℕ, ◌+◌, ◌≤◌, ◌≡◌, length, drop}
 use Rattle.rules.specs.Bytes.{overlay}
 use Rattle.rules.specs.State as rules
 use Rattle.rules.specs.Numbers.{Unrefused}
@@ -13,11 +13,10 @@ use Rattle.state.specs.Heads.{state_with}
 use Rattle.profile.specs.declared.Profile.{Profile}
 use Rattle.profile.specs.View.{profile_of}
 use Rattle.response.specs.declared.Response.{Response}
-use Rattle.response.specs.declared.Response.TheVariants as response
 use Rattle.response.specs.declared.Done.{Done}
 
 pub record CommandEffect : Type 0 where
-  pub response : Response
+  pub response : Option Response
   pub state : rules.State
   pub flash : List ℕ
   pub out : List ℕ
@@ -27,9 +26,9 @@ abbrev pub command_effect : Done → List ℕ → List ℕ → List ℕ → List
 command_effect r w l d out = record { response = r.response; state = view (state_with r.head w l); flash = d; out = out }
 
 -- a response with its results counted, and laid over the buffer
-abbrev pub counted : responses.Response → Response
-counted (Reply status results) = response.Reply status (length results)
-counted NoReply = response.NoReply
+abbrev pub counted : responses.Response → Option Response
+counted (Reply status results) = Some (record { status = status; count = length results })
+counted NoReply = None
 
 abbrev pub results_in : responses.Response → List ℕ → ℕ → List ℕ
 results_in (Reply status results) out at = overlay out at results

@@ -6,45 +6,56 @@ ghost use Rattle.rules.specs.Frames.{two_bytes};
 ghost use Rattle.rules.specs.Responses.{replying, ok};
 ghost use Rattle.state.specs.View.{view};
 ghost use Rattle.state.specs.Heads.{state_with};
+ghost use Rattle.response.specs.Codes.{status_code};
 ghost use Rattle.response.specs.Done.{command_effect, ruled_command};
 
 use byte_slices::two_bytes;
 use state::Head;
 
-// A status with so many results, or nothing to send.
+// The status of a reply, with its code.
 #[derive(Clone, Copy)]
-pub enum Response {
-    Reply { status: u8, count: usize },
-    NoReply,
+pub enum Status {
+    Ok = 0,
+    CommandNotSupported = 2,
+    InvalidTransfer = 3,
+    InvalidCrc = 4,
+    InvalidArguments = 5,
+}
+
+impl Status {
+    pub fn code(self) -> u8
+        ensures { result ≡ status_code self }
+    {
+        self as u8
+    }
+}
+
+// A status code with so many results.
+#[derive(Clone, Copy)]
+pub struct Response {
+    pub status: u8,
+    pub count: usize,
 }
 
 #[derive(Clone, Copy)]
 pub struct Done {
-    pub response: Response,
+    pub response: Option<Response>, // none: nothing to send
     pub head: Head,
 }
 
-// The status codes of a reply.
-pub const OK: u8 = 0;
-
-pub const COMMAND_NOT_SUPPORTED: u8 = 2;
-
-pub const INVALID_TRANSFER: u8 = 3;
-
-pub const INVALID_CRC: u8 = 4;
-
-pub const INVALID_ARGUMENTS: u8 = 5;
-
 // A status and its results; the state stays.
-pub fn reply(h: Head, status: u8, results: &[u8], out: &mut [u8], at: usize) -> Done
+pub fn reply(h: Head, status: Status, results: &[u8], out: &mut [u8], at: usize) -> Done
     requires { at + length results.now ≤ length out.old }
     ensures { (w l d : List ℕ) → command_effect result w l d out.new
-        ≡ ruled_command (replying (view (state_with h w l)) d status results.now) out.old at }
+        ≡ ruled_command (replying (view (state_with h w l)) d (status_code status) results.now) out.old at }
 {
     let count = results.len();
     byte_slices::store(out, at, results);
     Done {
-        response: Response::Reply { status, count },
+        response: Some(Response {
+            status: status.code(),
+            count,
+        }),
         head: h,
     }
 }
@@ -56,5 +67,5 @@ pub fn reply_number(h: Head, n: usize, out: &mut [u8], at: usize) -> Done
         ≡ ruled_command (replying (view (state_with h w l)) d ok (two_bytes n)) out.old at }
 {
     let bytes = two_bytes(n);
-    reply(h, OK, &bytes, out, at)
+    reply(h, Status::Ok, &bytes, out, at)
 }

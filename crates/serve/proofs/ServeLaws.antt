@@ -3,6 +3,7 @@ use mathlib.Core.Path.{◌≡◌}
 use mathlib.Core.List.{List}
 use Prim.Native.Nat.{ℕ, ◌≤◌}
 use native.Mathlib.Omega.{arith}
+use Rattle.std.specs.Prelude.{Option}
 use lib.ListN.{length}
 use Rattle.rules.specs.Profile.{Profile}
 use Rattle.rules.specs.State as rules
@@ -22,7 +23,7 @@ fits_counted p n NoReply small room fits = tt
 
 -- the response of a command fits the buffer that it was served with
 pub fits_served : (p : Profile) (s : rules.State) (code : ℕ) (args d : List ℕ) (n m k : ℕ) → Unrefused p s n m → length d ≡ n → k ≡ m
-    → (r : response.Response)
+    → (r : Option response.Response)
     → r ≡ counted (executed p s code args d).response → Fits p.bus k r
 fits_served p s code args d n m k unrefused flash buffer r e =
     let profile = unrefused_profile unrefused in

@@ -9,7 +9,7 @@ ghost use Rattle.profile.specs.View.{profile_of};
 ghost use Rattle.response.specs.Done.{command_effect, ruled_command};
 
 use profile::Profile;
-use response::{Done, INVALID_ARGUMENTS, OK, Response};
+use response::{Done, Status};
 use rules::kinds::{Address, Bus};
 use state::Head;
 
@@ -38,16 +38,16 @@ pub fn set_address(p: Profile, h: Head, args: &[u8], out: &mut [u8], at: usize) 
 {
     if !type_matches(p.hardware, args[1]) {
         return Done {
-            response: Response::NoReply,
+            response: None,
             head: h,
         };
     }
     let bus = p.bus;
     let own = address_taken(bus, args[0]);
     if addressing::reserved(bus, own as usize) {
-        return response::reply(h, INVALID_ARGUMENTS, &[], out, at);
+        return response::reply(h, Status::InvalidArguments, &[], out, at);
     }
-    response::reply(h.with_address(Address::Own(own)), OK, &[], out, at)
+    response::reply(h.with_address(Address::Own(own)), Status::Ok, &[], out, at)
 }
 
 // 0x05 start: no reply, running, waiting bytes lost.
@@ -55,7 +55,7 @@ pub fn start(h: Head) -> Done
     ensures { (w l d o : List ℕ) (at : ℕ) → command_effect result w l d o ≡ ruled_command (started (view (state_with h w l)) d) o at }
 {
     Done {
-        response: Response::NoReply,
+        response: None,
         head: h.started(),
     }
 }

@@ -3,7 +3,7 @@
 
 ghost use Rattle.std.specs.Prelude.{◌≡◌, List, ℕ, ◌≤◌, length};
 ghost use Rattle.rules.specs.Commands.{written, finished};
-ghost use Rattle.state.specs.View.{largest_page, view};
+ghost use Rattle.state.specs.View.{view};
 ghost use Rattle.state.specs.Heads.{state_with};
 ghost use Rattle.profile.specs.View.{profile_of};
 ghost use Rattle.response.specs.Done.{command_effect, ruled_command, Commanded, Serving};
@@ -11,21 +11,20 @@ ghost use Rattle.response.specs.Done.{command_effect, ruled_command, Commanded, 
 use acceptance::{accepts, restart};
 use byte_slices::number_at;
 use profile::Profile;
-use response::{Done, INVALID_ARGUMENTS, OK};
-use state::Head;
+use response::{Done, Status};
+use state::{Head, State};
 
 // 0x06 write: address, data bytes.
 pub fn write(
     p: Profile,
     h: Head,
     args: &[u8],
-    waiting: &mut [u8],
+    waiting: &mut [u8; State::LARGEST_PAGE],
     flash: &mut [u8],
     out: &mut [u8],
     at: usize,
 ) -> Done
     requires serving { Serving p h (length flash.old) (length out.old) at }
-    requires waiting_len { length waiting.old ≡ largest_page }
     requires in_bounds { 2 ≤ length args.now }
     ensures { Commanded result waiting.old waiting.new flash.new out.new
         (λ l. written (profile_of p) (view (state_with h waiting.old l)) args.now flash.old)
@@ -35,23 +34,22 @@ pub fn write(
     let counts = h.counts;
     let bytes = &args[2..];
     if !accepts(p.size, counts.next, address, bytes.len()) {
-        return response::reply(h, INVALID_ARGUMENTS, &[], out, at);
+        return response::reply(h, Status::InvalidArguments, &[], out, at);
     }
     let taken = upload::take(p, restart(counts, address), bytes, waiting, flash);
-    response::reply(h.with_counts(taken), OK, &[], out, at)
+    response::reply(h.with_counts(taken), Status::Ok, &[], out, at)
 }
 
 // 0x07 finalize: results are the erase count in two bytes.
 pub fn finalize(
     p: Profile,
     h: Head,
-    waiting: &[u8],
+    waiting: &[u8; State::LARGEST_PAGE],
     flash: &mut [u8],
     out: &mut [u8],
     at: usize,
 ) -> Done
     requires serving { Serving p h (length flash.old) (length out.old) at }
-    requires waiting_len { length waiting.now ≡ largest_page }
     ensures { (l : List ℕ) → command_effect result waiting.now l flash.new out.new
         ≡ ruled_command (finished (profile_of p) (view (state_with h waiting.now l)) flash.old)
         out.old at }
