@@ -1,40 +1,28 @@
 // Bytes that a line gives: one byte many times, a file, or digits. They are put at the start of a lent buffer.
-use crate::fields::{Parsed, are_digits, fault, first, hex, hex_byte, is, is_end, number, rest};
-use bench_output::{Output, say, say_word};
+ghost use Rattle.std.specs.Prelude.{◌≤◌, length, IfOk};
+
+use crate::fields::{Fault, end, first, hex, hex_byte, is, number, rest, tell_fault};
+use bench_output::Output;
+use std::fmt::Display;
 use std::fs::Files;
 use std::io::ErrorKind;
 use std::{fs, io};
 
-// Sets the first n bytes, or all if there are fewer.
-pub fn fill(s: &mut [u8], n: usize, b: u8) {
-    let mut i = 0;
-    while i < s.len() {
-        if n <= i {
-            return;
-        }
-        s[i] = b;
-        i += 1;
-    }
-}
-
 // `BYTE COUNT`
-fn fill_data(output: &mut Output, s: &[u8], out: &mut [u8]) -> Parsed {
-    let byte = hex_byte(output, b"fill", first(s));
-    let Parsed::Value(b) = byte else {
-        return byte;
-    };
-    let count = number(output, b"count", first(rest(s)), 0, 65535);
-    let Parsed::Value(n) = count else {
-        return count;
-    };
-    fill(out, n, (b % 256) as u8);
-    count
+fn fill_data(output: &mut Output, s: &[u8], out: &mut [u8]) -> Result<usize, Fault>
+    ensures { IfOk result (λ n. n ≤ length out.old) }
+{
+    let byte = hex_byte(output, "fill", first(s))?;
+    let count = number(output, "count", first(rest(s)), 0, 65535)?;
+    let n = count.min(out.len());
+    out[..n].fill(byte);
+    Ok(n)
 }
 
-// Says why a file cannot be used; a `%` in the reason is the limit.
-fn unusable(output: &mut Output, name: &[u8], reason: &[u8], limit: usize) -> Parsed {
-    fault(output, b"the file", name, reason, limit);
-    Parsed::Unusable
+// Says why a file cannot be used.
+fn unusable(output: &mut Output, name: &[u8], reason: impl Display + Drop) -> Fault {
+    tell_fault(output, "the file", name, reason);
+    Fault::Unusable
 }
 
 // A file by its name. One whose name is no text cannot be opened.
@@ -45,17 +33,19 @@ pub fn opened<F: Files>(files: &F, name: &[u8]) -> io::Result<F::File> {
     }
 }
 
-// A file that was not opened.
-fn unopened(output: &mut Output, name: &[u8], error: ErrorKind) -> Parsed {
+// Why a file was not opened.
+fn unopened(error: ErrorKind) -> &'static str {
     match error {
-        ErrorKind::NotFound => unusable(output, name, b" is not there\n", 0),
-        ErrorKind::PermissionDenied => unusable(output, name, b" may not be read\n", 0),
-        _ => unusable(output, name, b" cannot be opened\n", 0),
+        ErrorKind::NotFound => " is not there\n",
+        ErrorKind::PermissionDenied => " may not be read\n",
+        _ => " cannot be opened\n",
     }
 }
 
 // Reads until the buffer is full or the file ends: how many bytes.
-fn read_full(file: &mut impl io::Read, out: &mut [u8]) -> io::Result<usize> {
+fn read_full(file: &mut impl io::Read, out: &mut [u8]) -> io::Result<usize>
+    ensures { IfOk result (λ n. n ≤ length out.old) }
+{
     let mut n = 0;
     while n < out.len() {
         let got = file.read(&mut out[n..])?;
@@ -67,85 +57,78 @@ fn read_full(file: &mut impl io::Read, out: &mut [u8]) -> io::Result<usize> {
     Ok(n)
 }
 
-// A file that gave no byte: it is empty, or a read of it failed, as of a folder.
-fn unread(output: &mut Output, name: &[u8], failed: bool) -> Parsed {
-    if failed {
-        return unusable(output, name, b" is a folder, or cannot be read\n", 0);
-    }
-    unusable(output, name, b" is empty\n", 0)
-}
-
 // Whether a text begins as a record of Intel HEX does: a colon, then eight digits at least.
 fn is_intel_hex(s: &[u8]) -> bool {
-    if s.len() < 9 {
-        return false;
+    match s.get(..9) {
+        Some([b':', digits @ ..]) => digits.iter().all(|byte| byte.is_ascii_hexdigit()),
+        _ => false,
     }
-    s[0] == b':'
-        && are_digits(s[1], s[2])
-        && are_digits(s[3], s[4])
-        && are_digits(s[5], s[6])
-        && are_digits(s[7], s[8])
 }
 
 // A file of text that is given for one of bytes.
 fn tell_text_file(output: &mut Output, name: &[u8]) {
-    say(output, b"  ** the file ");
-    say_word(output, name);
-    say(
-        output,
-        b" looks like Intel HEX: its characters are taken as bytes **
+    output.say("  ** the file ");
+    output.say_word(name);
+    output.say(
+        " looks like Intel HEX: its characters are taken as bytes **
     do: make a binary file of it first, as with: objcopy -I ihex -O binary NAME.hex NAME.bin
 ",
     );
 }
 
-// A file that filled the buffer of n bytes.
-fn too_long(output: &mut Output, name: &[u8], n: usize) -> Parsed {
-    if n == 0 {
-        return unusable(output, name, b" is too long\n", 0);
-    }
-    unusable(output, name, b" is too long: at most % bytes fit\n", n - 1)
-}
-
-// The n bytes that a file gave, if they are fewer than the buffer has.
-fn given(output: &mut Output, name: &[u8], out: &[u8], n: usize) -> Parsed {
-    if out.len() <= n {
-        return too_long(output, name, n);
-    }
-    if is_intel_hex(&out[0..n]) {
-        tell_text_file(output, name);
-    }
-    Parsed::Value(n)
-}
-
-// What the reads of a file gave.
-fn whole_file(output: &mut Output, name: &[u8], out: &[u8], got: io::Result<usize>) -> Parsed {
+// What the reads of a file gave: an empty file, a failure, as of a folder, a full buffer, or all its bytes.
+fn whole_file(
+    output: &mut Output,
+    name: &[u8],
+    out: &[u8],
+    got: io::Result<usize>,
+) -> Result<usize, Fault>
+    ensures { IfOk result (λ n. n ≤ length out.now) }
+{
     match got {
-        Ok(0) => unread(output, name, false),
-        Ok(n) => given(output, name, out, n),
-        Err(_) => unread(output, name, true),
+        Err(_) => Err(unusable(output, name, " is a folder, or cannot be read\n")),
+        Ok(0) => Err(unusable(output, name, " is empty\n")),
+        Ok(n) if n < out.len() => {
+            if is_intel_hex(&out[..n]) {
+                tell_text_file(output, name);
+            }
+            Ok(n)
+        }
+        Ok(n) => {
+            let most = n - 1;
+            Err(unusable(
+                output,
+                name,
+                format_args!(" is too long: at most {most} bytes fit\n"),
+            ))
+        }
     }
 }
 
 // A whole file, if it has bytes and fewer than the buffer.
-pub fn file(output: &mut Output, files: &impl Files, name: &[u8], out: &mut [u8]) -> Parsed {
-    if name.len() == 0 {
-        return fault(output, b"file", name, b": the name is missing\n", 0);
+pub fn file(
+    output: &mut Output,
+    files: &impl Files,
+    name: &[u8],
+    out: &mut [u8],
+) -> Result<usize, Fault>
+    ensures { IfOk result (λ n. n ≤ length out.old) }
+{
+    if name.is_empty() {
+        return Err(tell_fault(output, "file", name, ": the name is missing\n"));
     }
-    if !is_end(output, rest(name)) {
-        return Parsed::Wrong;
-    }
+    end(output, rest(name))?;
     match opened(files, name) {
         Ok(mut from) => {
             let got = read_full(&mut from, out);
             whole_file(output, name, out, got)
         }
-        Err(e) => unopened(output, name, e.kind()),
+        Err(e) => Err(unusable(output, name, unopened(e.kind()))),
     }
 }
 
 // How a line gives bytes: `fill BYTE COUNT`, `file NAME`, or digits.
-#[derive(Clone, Copy)]
+#[derive(Clone, Copy, PartialEq, Eq, Debug)]
 pub enum DataKind {
     Fill,
     File,
@@ -153,35 +136,41 @@ pub enum DataKind {
 }
 
 pub fn data_kind(word: &[u8]) -> DataKind {
-    if is(word, b"fill") {
-        return DataKind::Fill;
+    if is(word, "fill") {
+        DataKind::Fill
+    } else if is(word, "file") {
+        DataKind::File
+    } else {
+        DataKind::Digits
     }
-    if is(word, b"file") {
-        return DataKind::File;
-    }
-    DataKind::Digits
 }
 
 // The bytes that a line gives: how many.
-pub fn data(output: &mut Output, files: &impl Files, s: &[u8], out: &mut [u8]) -> Parsed {
+pub fn data(
+    output: &mut Output,
+    files: &impl Files,
+    s: &[u8],
+    out: &mut [u8],
+) -> Result<usize, Fault>
+    ensures { IfOk result (λ n. n ≤ length out.old) }
+{
     let word = first(s);
-    let kind = data_kind(word);
-    match kind {
+    match data_kind(word) {
         DataKind::Fill => fill_data(output, rest(s), out),
         DataKind::File => file(output, files, first(rest(s)), out),
-        DataKind::Digits => {
-            if word.len() == 0 {
-                return fault(output, b"bytes", word, b": none are given\n", 0);
-            }
-            hex(output, b"bytes", word, out)
-        }
+        DataKind::Digits if word.is_empty() => Err(tell_fault(
+            output,
+            "bytes",
+            word,
+            ": none are given\n",
+        )),
+        DataKind::Digits => hex(output, "bytes", word, out),
     }
 }
 
 // What follows such bytes on the line.
-pub fn after_data<'a>(s: &'a [u8]) -> &'a [u8] {
-    let kind = data_kind(first(s));
-    match kind {
+pub fn after_data(s: &[u8]) -> &[u8] {
+    match data_kind(first(s)) {
         DataKind::Fill => rest(rest(rest(s))),
         DataKind::File => rest(rest(s)),
         DataKind::Digits => rest(s),

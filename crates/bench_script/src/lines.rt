@@ -1,92 +1,72 @@
 // The lines of a script, read one by one.
 use std::io;
 
-#[derive(Clone, Copy)]
-pub enum Line {
-    // So many bytes, without the line feed.
-    Text(usize),
+// The mark that some editors put in front of a text.
+const BYTE_ORDER_MARK: &str = "\u{feff}";
+
+#[derive(Drop)]
+pub enum Line<'a> {
+    // without the line feed
+    Text(&'a mut [u8]),
+    // more bytes than can be kept
     Long,
     End,
 }
 
-#[derive(Clone, Copy)]
-enum Read {
-    Byte(u8),
-    End,
+fn read_byte(input: &mut impl io::Read) -> io::Result<Option<u8>> {
+    let mut byte = [0];
+    let got = input.read(&mut byte)?;
+    Ok(if got == 0 { None } else { Some(byte[0]) })
 }
 
-fn read_byte(input: &mut impl io::Read) -> io::Result<Read> {
-    let mut b = [0u8; 1];
-    let got = input.read(&mut b)?;
-    Ok(if got < 1 { Read::End } else { Read::Byte(b[0]) })
+// A line of n bytes, if the buffer has them all.
+fn whole<'a>(line: &'a mut [u8], n: usize) -> Line<'a> {
+    match line.get_mut(..n) {
+        Some(text) => Line::Text(text),
+        None => Line::Long,
+    }
 }
 
-// A line with n bytes kept and others lost.
-fn whole(n: usize, lost: bool) -> Line {
-    if lost { Line::Long } else { Line::Text(n) }
-}
-
-// The next line. The last one may lack its line feed.
-pub fn read_line(input: &mut impl io::Read, line: &mut [u8]) -> io::Result<Line> {
-    let mut n = 0;
-    let mut lost = false;
-    let mut turns = u64::MAX;
-    while 0 < turns {
-        turns -= 1;
-        let got = read_byte(input)?;
-        let Read::Byte(b) = got else {
-            return Ok(if n == 0 { Line::End } else { whole(n, lost) });
-        };
-        if b == b'\n' {
-            return Ok(whole(n, lost));
-        }
-        if n < line.len() {
-            line[n] = b;
-            n += 1;
-        } else {
-            lost = true;
+// The next line, kept in the buffer. The last one may lack its line feed.
+pub fn read_line<'a>(input: &mut impl io::Read, line: &'a mut [u8]) -> io::Result<Line<'a>> {
+    let mut n: usize = 0;
+    for _ in 0..u64::MAX {
+        match read_byte(input)? {
+            None if n == 0 => return Ok(Line::End),
+            None | Some(b'\n') => return Ok(whole(line, n)),
+            Some(byte) => {
+                if let Some(place) = line.get_mut(n) {
+                    *place = byte;
+                }
+                n = n.saturating_add(1);
+            }
         }
     }
     Ok(Line::End)
 }
 
-fn cleaned(b: u8) -> u8 {
-    if b == b'\t' || b == b'\r' {
-        return b' ';
+fn cleaned(byte: u8) -> u8 {
+    match byte {
+        b'\t' | b'\r' => b' ',
+        _ if byte.is_ascii_control() => b'?',
+        _ => byte,
     }
-    if b < 32 || b == 127 { b'?' } else { b }
 }
 
 // Tabs and carriage returns become blanks, other control bytes question marks.
-pub fn clean(s: &mut [u8]) {
-    let mut i = 0;
-    while i < s.len() {
-        s[i] = cleaned(s[i]);
-        i += 1;
+pub fn clean(line: &mut [u8]) {
+    for byte in line.iter_mut() {
+        *byte = cleaned(*byte);
     }
 }
 
 // Without the byte order mark that some editors put in front of a text.
-pub fn without_mark<'a>(s: &'a [u8]) -> &'a [u8] {
-    if s.len() < 3 {
-        return s;
-    }
-    if s[0] != 0xef {
-        return s;
-    }
-    if s[1] != 0xbb {
-        return s;
-    }
-    if s[2] != 0xbf {
-        return s;
-    }
-    &s[3..]
+pub fn without_mark(line: &[u8]) -> &[u8] {
+    line.strip_prefix(BYTE_ORDER_MARK.as_bytes())
+        .unwrap_or(line)
 }
 
 // A comment or an empty line.
 pub fn is_comment(s: &[u8]) -> bool {
-    if s.len() == 0 {
-        return true;
-    }
-    s[0] == b'#'
+    matches!(s.first(), None | Some(b'#'))
 }

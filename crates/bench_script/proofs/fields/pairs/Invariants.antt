@@ -1,9 +1,9 @@
--- `bench_script::fields::pairs` is safe and ends. The place moves on, and the slice keeps its length.
-use Rattle.std.proofs.Common.{◌≡◌, ◌≤◌, ◌-◌, length}
+-- The bytes that were read fit the slice, which keeps its length.
+use Rattle.std.proofs.Common.{◌≡◌, ◌≤◌, length}
 use Rattle.bench_script.proofs.fields.pairs.Given as goal
 
-abbrev pub invariant-loop-i : goal.invariant-loop-i
-invariant-loop-i l = (l.i ≤ length l.s) × (length l.out ≡ length l.initial.out)
+abbrev pub invariant-loop-word : goal.invariant-loop-word
+invariant-loop-word l = (l.n ≤ length l.fn.out) × (length l.out ≡ length l.fn.out)
 
-abbrev pub decreases-loop-i : goal.decreases-loop-i
-decreases-loop-i l = length l.s - l.i
+abbrev pub invariant-loop-pair : goal.invariant-loop-pair
+invariant-loop-pair l = (l.n ≤ length l.fn.out) × (length l.out ≡ length l.fn.out)

@@ -1,4 +1,4 @@
--- `bench_script::image::read_full` is safe and ends. The place moves on, and the slice keeps its length.
+-- The place moves on, and the slice keeps its length.
 use Rattle.std.proofs.Common.{◌≡◌, ◌≤◌, ◌-◌, length}
 use Rattle.bench_script.proofs.image.read_full.Given as goal
 
