@@ -14,7 +14,6 @@ use answer::{Answer, keep_reply};
 use handling::handle;
 use numbers::reply_length;
 use profile::Profile;
-use refusal::Check;
 use state::State;
 
 // A received frame. The I²C address stands beside it; on RS485 it isn't looked at.
@@ -31,19 +30,16 @@ pub fn receive(
         (frames.verdict p.bus p.longest s.running s.address address frame.now) }
 {
     let h = s.head();
-    let check = refusal::refuse(p, h, flash.len(), out.len());
-    if let Check::Refused(outcome) = check {
+    if let Err(outcome) = refusal::refuse(p, h, flash.len(), out.len()) {
         return Answer { outcome, state: s };
     }
     let mut waiting = s.upload.waiting;
     let handled = handle(p, h, address, frame, &mut waiting, flash, out);
     let outcome = handled.outcome;
-    let head = handled.head;
-    let bus = p.bus;
     let mut bytes = s.last.bytes;
-    keep_reply(bus, reply_length(outcome), &out[..], &mut bytes);
+    keep_reply(p.bus, reply_length(outcome), &out[..], &mut bytes);
     Answer {
         outcome,
-        state: State::joined(head, waiting, bytes),
+        state: State::joined(handled.state, waiting, bytes),
     }
 }

@@ -11,7 +11,6 @@ ghost use Rattle.answer.specs.Answered.{ReadAnswered};
 use answer::Answer;
 use last_reply::hand_out;
 use profile::Profile;
-use refusal::Check;
 use state::State;
 
 // An I²C read hands out the last reply and keeps it as it is; the state comes back as it was given.
@@ -20,8 +19,7 @@ pub fn read(p: Profile, s: State, address: u8, flash: &[u8], out: &mut [u8]) -> 
         (read_out (profile_of p) (view s) address flash.now (length out.old)) }
 {
     let h = s.head();
-    let check = refusal::refuse(p, h, flash.len(), out.len());
-    if let Check::Refused(outcome) = check {
+    if let Err(outcome) = refusal::refuse(p, h, flash.len(), out.len()) {
         return Answer { outcome, state: s };
     }
     let bus = p.bus;

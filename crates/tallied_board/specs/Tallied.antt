@@ -10,7 +10,7 @@ use Rattle.tally.specs.Tally.{tallied}
 
 -- a received frame of verdict v on the state s was answered by r, and left the flash d, the buffer out, which was before, and the tally t,
 -- which was t₀
-pub record FrameTallied (s : State) (r : Answer) (d out before : List ℕ) (t t₀ : Tally) (c : Called) (v : Verdict) : Type 0 where
+pub record FrameTallied (s : State) (r : Answer State) (d out before : List ℕ) (t t₀ : Tally) (c : Called) (v : Verdict) : Type 0 where
   pub answered : FrameAnswered s r d out before c v
   -- counted once, by the number that the rules give this very call
   pub counted : t ≡ tallied t₀ c.number

@@ -8,7 +8,7 @@ ghost use Rattle.tally.specs.Tally.{more, cleared, tallied};
 use numbers::board_number;
 use rules::kinds::Outcome;
 
-#[derive(Clone, Copy)]
+#[derive(Clone, Copy, Default)]
 pub struct Tally {
     pub short: u16, // answered 15: too short
     pub long: u16, // answered 16: too long
@@ -19,19 +19,13 @@ pub struct Tally {
 
 impl Tally {
     // A counter stops here.
-    pub const LARGEST_COUNT: u16 = 65535;
+    pub const LARGEST_COUNT: u16 = u16::MAX;
 
     // No frame counted yet.
     pub fn cleared() -> Tally
         ensures { result ≡ cleared }
     {
-        Tally {
-            short: 0,
-            long: 0,
-            sum: 0,
-            foreign: 0,
-            answered: 0,
-        }
+        Tally::default()
     }
 }
 
@@ -39,16 +33,10 @@ impl Tally {
 fn more(counts: bool, n: u16) -> u16
     ensures { result ≡ more counts n }
 {
-    if counts {
-        if n < Tally::LARGEST_COUNT {
-            return n + 1;
-        }
-        return Tally::LARGEST_COUNT;
-    }
-    n
+    if counts { n.saturating_add(1) } else { n }
 }
 
-// The tally after a frame that was answered by a number. No counter rises with 1 to 5.
+// The tally after a frame that was answered by a number, as the C call gives it. No counter rises with 1 to 5.
 pub fn counted_by(t: Tally, number: u32) -> Tally
     ensures { result ≡ tallied t number }
 {

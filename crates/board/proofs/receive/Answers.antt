@@ -14,13 +14,13 @@ use Rattle.handling.proofs.HandleLaws.{handled-made}
 use Rattle.board.proofs.Laws.{handled_answered}
 use Rattle.board.proofs.receive.Goals as goal
 
-pub returns-in-Refused : goal.returns-in-Refused
-returns-in-Refused c =
+pub returns-in-Err : goal.returns-in-Err
+returns-in-Err c =
     let p = profile_of c.args.p in
     let s = view c.args.s in
-    let asked = c.refuse-check.ensures c.args.s.upload.waiting c.args.s.last.bytes in
+    let asked = c.refuse.ensures c.args.s.upload.waiting c.args.s.last.bytes in
     let same = ap (λ (s : State). check_of (refusal p (view s) (length c.args.flash.now) (length c.args.out.now))) c.head-h.ensures in
-    let r = check_refused p s (length c.args.flash.now) (length c.args.out.now) _ (sym (asked ∙ same) ∙ c.in-Refused.is) in
+    let r = check_refused p s (length c.args.flash.now) (length c.args.out.now) _ (sym (asked ∙ same) ∙ c.in-Err.is) in
     rw (received-refused p s c.args.flash.now c.args.address c.args.frame.now (length c.args.out.now) (eqb-false _ 0 r.not_zero))
     (record { answered = record { called = rw (r.numbered, r.none_made); untouched = λ two. refl }; ignored_kept = λ i. refl })
 
@@ -28,15 +28,14 @@ returns-in-Refused c =
 pub handle-handled-requires : goal.handle-handled-requires
 handle-handled-requires c =
     let free = λ (w l : List ℕ). check_passed (profile_of c.args.p) (view (state_with c.head-h.result w l))
-    (length c.args.flash.now) (length c.args.out.now) (sym (c.refuse-check.ensures w l) ∙ c.in_default.is) in record {
+    (length c.args.flash.now) (length c.args.out.now) (sym (c.refuse.ensures w l) ∙ c.in_default.is) in record {
       by_index = λ w l. refusal_unrefused _ _ _ _ (free w l);
-      waiting_len = search rules;
     }
 
 pub keep_reply-requires : goal.keep_reply-requires
 keep_reply-requires c =
     let free = λ (w l : List ℕ). check_passed (profile_of c.args.p) (view (state_with c.head-h.result w l))
-    (length c.args.flash.now) (length c.args.out.now) (sym (c.refuse-check.ensures w l) ∙ c.in_default.is) in
+    (length c.args.flash.now) (length c.args.out.now) (sym (c.refuse.ensures w l) ∙ c.in_default.is) in
     let w = c.args.s.upload.waiting in
     let unrefused = refusal_unrefused _ _ _ _ (free w c.args.s.last.bytes) in
     let most = handled-made c.args.p c.head-h.result w c.args.flash.now c.args.out.now c.args.address
@@ -48,7 +47,7 @@ keep_reply-requires c =
 pub returns : goal.returns
 returns c =
     let free = λ (w l : List ℕ). check_passed (profile_of c.args.p) (view (state_with c.head-h.result w l))
-    (length c.args.flash.now) (length c.args.out.now) (sym (c.refuse-check.ensures w l) ∙ c.in_default.is) in
+    (length c.args.flash.now) (length c.args.out.now) (sym (c.refuse.ensures w l) ∙ c.in_default.is) in
     let told = handled_answered c.args.p c.head-h.result c.args.s.upload.waiting c.args.s.last.bytes c.args.flash.now c.args.out.now
     c.args.address c.args.frame.now (free c.args.s.upload.waiting) _ _ _ _ c.handle-handled.ensures c.args.s c.head-h.ensures in
     rw (c.joined.ensures, c.keep_reply.ensures, c.reply_length.ensures) told
