@@ -8,38 +8,26 @@ ghost use Rattle.byte_parts.specs.Parts.{part, stands_at};
 pub fn from<'a>(bytes: &'a [u8], at: usize) -> &'a [u8]
     ensures { result.now ≡ drop at bytes.now }
 {
-    if bytes.len() < at {
-        return &bytes[0..0];
-    }
-    &bytes[at..]
+    &bytes[at.min(bytes.len())..]
 }
 
 // The first n bytes, or as many as there are.
 pub fn first<'a>(bytes: &'a [u8], n: usize) -> &'a [u8]
     ensures { result.now ≡ part 0 n bytes.now }
 {
-    if bytes.len() < n {
-        return bytes;
-    }
-    &bytes[0..n]
+    &bytes[..n.min(bytes.len())]
 }
 
 // Whether the byte b stands at a place.
 pub fn stands_at(bytes: &[u8], place: usize, b: u8) -> bool
     ensures { result ≡ stands_at bytes.now place b }
 {
-    if bytes.len() <= place {
-        return false;
-    }
-    bytes[place] == b
+    bytes.get(place) == Some(&b)
 }
 
 // The byte at a place, or another where there is none.
 pub fn byte_or(bytes: &[u8], place: usize, other: u8) -> u8
     ensures { result ≡ get_or bytes.now place other }
 {
-    if bytes.len() <= place {
-        return other;
-    }
-    bytes[place]
+    bytes.get(place).copied().unwrap_or(other)
 }

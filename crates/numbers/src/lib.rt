@@ -6,7 +6,7 @@ ghost use Rattle.rules.specs.Numbers.{number, made};
 ghost use Rattle.rules.specs.Master.{encoded_number, encoded_length, decoded_as, ruled_as, reset_number, reset_length};
 
 use rules::kinds::Outcome;
-use rules::requests::{Decoded, Encoded, RunningReset, Version};
+use rules::requests::{Decoded, EncodeError, ResetError, Version, VersionError};
 
 // A board call.
 pub fn board_number(outcome: Outcome) -> u32
@@ -32,40 +32,27 @@ pub fn reply_length(outcome: Outcome) -> usize
 {
     match outcome {
         Outcome::Reply(n) => n,
-        Outcome::Nothing => 0,
-        Outcome::ProfileOutOfRange => 0,
-        Outcome::FlashTooShort => 0,
-        Outcome::StateMalformed => 0,
-        Outcome::BufferTooShort => 0,
-        Outcome::FrameTooShort => 0,
-        Outcome::FrameTooLong => 0,
-        Outcome::FrameSumWrong => 0,
-        Outcome::FrameForeign => 0,
+        _ => 0,
     }
 }
 
 // A request asked of the encoder.
-pub fn encoded_number(answer: Encoded) -> u32
+pub fn encoded_number(answer: Result<usize, EncodeError>) -> u32
     ensures { result ≡ encoded_number answer }
 {
     match answer {
-        Encoded::Made(_) => 0,
-        Encoded::FrameOutOfRange => 2,
-        Encoded::OutputTooShort => 6,
-        Encoded::ArgumentOutOfRange => 7,
+        Ok(_) => 0,
+        Err(EncodeError::FrameOutOfRange) => 2,
+        Err(EncodeError::OutputTooShort) => 6,
+        Err(EncodeError::ArgumentOutOfRange) => 7,
     }
 }
 
 // Its length; 0 where there is none.
-pub fn encoded_length(answer: Encoded) -> usize
+pub fn encoded_length(answer: Result<usize, EncodeError>) -> usize
     ensures { result ≡ encoded_length answer }
 {
-    match answer {
-        Encoded::Made(n) => n,
-        Encoded::FrameOutOfRange => 0,
-        Encoded::OutputTooShort => 0,
-        Encoded::ArgumentOutOfRange => 0,
-    }
+    answer.unwrap_or(0)
 }
 
 // A reply taken apart.
@@ -73,11 +60,7 @@ pub fn decoded_number(answer: Decoded) -> u32
     ensures { result ≡ (decoded_as answer).number }
 {
     match answer {
-        Decoded::Reply {
-            status: _,
-            start: _,
-            len: _,
-        } => 0,
+        Decoded::Reply { .. } => 0,
         Decoded::NotServed => 7,
         Decoded::TooShort => 8,
         Decoded::SumWrong => 9,
@@ -89,38 +72,32 @@ pub fn decoded_number(answer: Decoded) -> u32
 }
 
 // A version.
-pub fn version_number(answer: Version) -> u32
+pub fn version_number(answer: Result<Version, VersionError>) -> u32
     ensures { result ≡ (ruled_as answer).number }
 {
     match answer {
-        Version::Known { major: _, minor: _ } => 0,
-        Version::ApplicationRunning => 40,
-        Version::Unknown => 14,
+        Ok(_) => 0,
+        Err(VersionError::ApplicationRunning) => 40,
+        Err(VersionError::Unknown) => 14,
     }
 }
 
 // A reset for a running application.
-pub fn reset_number(answer: RunningReset) -> u32
+pub fn reset_number(answer: Result<usize, ResetError>) -> u32
     ensures { result ≡ reset_number answer }
 {
     match answer {
-        RunningReset::Made(_) => 0,
-        RunningReset::VersionKnown => 1,
-        RunningReset::FrameOutOfRange => 2,
-        RunningReset::VersionUnknown => 14,
-        RunningReset::OutputTooShort => 6,
+        Ok(_) => 0,
+        Err(ResetError::VersionKnown) => 1,
+        Err(ResetError::FrameOutOfRange) => 2,
+        Err(ResetError::VersionUnknown) => 14,
+        Err(ResetError::OutputTooShort) => 6,
     }
 }
 
 // Its length; 0 where there is none.
-pub fn reset_length(answer: RunningReset) -> usize
+pub fn reset_length(answer: Result<usize, ResetError>) -> usize
     ensures { result ≡ reset_length answer }
 {
-    match answer {
-        RunningReset::Made(n) => n,
-        RunningReset::VersionKnown => 0,
-        RunningReset::FrameOutOfRange => 0,
-        RunningReset::VersionUnknown => 0,
-        RunningReset::OutputTooShort => 0,
-    }
+    answer.unwrap_or(0)
 }

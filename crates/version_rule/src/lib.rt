@@ -1,38 +1,25 @@
 // The version rule.
-#![tactic(auto)]
+#![tactic(auto, unfolding(rules::specs::Master::version_rule))]
 
 ghost use Rattle.std.specs.Prelude.{◌≡◌};
-ghost use Rattle.rules.specs.Master.{capped, ruled_as, version_rule};
+ghost use Rattle.rules.specs.Master.{ruled_as, version_rule};
 
-use rules::requests::Version;
+use rules::requests::{Version, VersionError};
 
-// A higher minor counts as the highest known.
-fn cap(highest: u8, minor: u8) -> u8
-    ensures { result ≡ capped highest minor }
-{
-    if highest < minor { highest } else { minor }
-}
-
-// The version that a board's answer counts as; 0.0 is an application's.
-pub fn version(major: u8, minor: u8) -> Version
+// The version that a board's answer counts as, a higher minor as the highest known; 0.0 is an application's.
+pub fn version(major: u8, minor: u8) -> Result<Version, VersionError>
     ensures { ruled_as result ≡ version_rule major minor }
 {
-    match major {
-        1 => Version::Known {
-            major: 1,
-            minor: cap(1, minor),
-        },
-        2 => Version::Known {
-            major: 2,
-            minor: cap(2, minor),
-        },
-        0 => {
-            if minor == 0 {
-                Version::ApplicationRunning
-            } else {
-                Version::Unknown
-            }
-        }
-        _ => Version::Unknown,
+    match (major, minor) {
+        (1, _) => Ok(Version {
+            major,
+            minor: minor.min(1),
+        }),
+        (2, _) => Ok(Version {
+            major,
+            minor: minor.min(2),
+        }),
+        (0, 0) => Err(VersionError::ApplicationRunning),
+        _ => Err(VersionError::Unknown),
     }
 }

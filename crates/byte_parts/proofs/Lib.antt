@@ -1,2 +1,0 @@
--- Laws behind the parts.
-pub mod PartLaws
