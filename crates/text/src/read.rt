@@ -1,161 +1,159 @@
 // Reading: the fields of a line are separated by one space.
-// A place is an index into the slice. Reading a field leaves the place of the next one: one past the end of the line after its last field,
-// and two past it after a field that is wrong. A field there is wrong again, so a line is asked once, at its end, by `is_read`.
-ghost use Rattle.std.specs.Prelude.{◌≡◌, ◌/◌, ◌^◌, ◌<◌, ◌≤◌, length};
+ghost use Rattle.std.specs.Prelude.{◌≡◌, ◌==◌, ◌/◌, ◌<◌, ◌≤◌, length, position, IfSome, IsSome, is_some, option_copied};
+ghost use Rattle.std.specs.List.{list_all};
 ghost use Rattle.std.proofs.lemmas.List.Edits.{sets};
-ghost use Rattle.text.specs.Read.{space, Found, is_read, Digit, number_of, field_of, read_number, NumbersRead};
-ghost use Rattle.text.specs.Read.{hex_right, pair_value, hex_bytes, is_dash, BytesRead, HexRead};
+ghost use Rattle.text.specs.Read.{space, before, is_read, digit_of, extended, number_of, field_at, next_field, next_place};
+ghost use Rattle.text.specs.Read.{numbers_at, place_after, hex_right, pair_value, hex_bytes, is_dash, BytesRead, HexRead};
 
-// What a whole field says.
+// The fields of a line, in order. A wrong field gives None.
 #[derive(Clone, Copy)]
-pub enum Parsed {
-    Value(usize),
-    Wrong,
+pub struct Fields<'a> {
+    pub line: &'a [u8],
+    // where the next field begins: past the end of the line after its last field
+    pub at: usize,
 }
 
-// What reading a field gives: its value, 0 for a wrong one, and the place of the next.
-#[derive(Clone, Copy)]
-pub struct Field {
-    pub value: usize,
-    pub next: usize,
-}
+impl<'a> Fields<'a> {
+    pub fn new(line: &'a [u8]) -> Self
+        ensures line { result.line.now ≡ line.now }
+        ensures place { result.at ≡ 0 }
+    {
+        Self { line, at: 0 }
+    }
 
-// The place of the first byte b from a place on, or of the end.
-fn find(s: &[u8], at: usize, b: u8) -> usize
-    ensures { Found b s.now at result }
-{
-    let mut i = at;
-    while i < s.len() {
-        if s[i] == b {
-            return i;
+    // The next field, if there is one.
+    pub fn next_field(&mut self) -> Option<&'a [u8]>
+        ensures line { self.new.line.now ≡ self.old.line.now }
+        ensures field { option_copied result ≡ next_field self.old.line.now self.old.at }
+        ensures place { self.new.at ≡ next_place self.old.line.now self.old.at }
+    {
+        let rest = self.line.get(self.at..)?;
+        let len = field_len(rest);
+        self.at += len + 1;
+        Some(&rest[..len])
+    }
+
+    // The next field, as a decimal number of at most `most`.
+    pub fn number(&mut self, most: u32) -> Option<usize>
+        ensures line { self.new.line.now ≡ self.old.line.now }
+        ensures value { result ≡ number_of most (field_at self.old.line.now self.old.at) }
+        ensures place { self.new.at ≡ next_place self.old.line.now self.old.at }
+    {
+        number(self.next_field()?, most)
+    }
+
+    // The next N fields, as decimal numbers of at most `most`.
+    pub fn numbers<const N: usize>(&mut self, most: u32) -> Option<[usize; N]>
+        ensures line { self.new.line.now ≡ self.old.line.now }
+        ensures values { result ≡ numbers_at most self.old.line.now self.old.at N }
+        ensures place { IsSome result → self.new.at ≡ place_after self.old.line.now self.old.at N }
+    {
+        let mut values = [0usize; N];
+        for value in values.iter_mut() {
+            *value = self.number(most)?;
         }
-        i += 1;
+        Some(values)
     }
-    i
+
+    // The next field, as a byte string: `-` for none, else pairs of hexadecimal digits. Gives how many bytes it has;
+    // they are laid at the start of the output, which a wrong or longer one leaves as it is.
+    pub fn hex(&mut self, out: &mut [u8]) -> Option<usize>
+        ensures line { self.new.line.now ≡ self.old.line.now }
+        ensures read { HexRead self.old.line.now self.old.at out.old result out.new }
+        ensures place { self.new.at ≡ next_place self.old.line.now self.old.at }
+    {
+        bytes(self.next_field()?, out)
+    }
+
+    // Every field of the line was read.
+    pub fn is_read(&self) -> bool
+        ensures { result ≡ is_read self.now.line.now self.now.at }
+    {
+        self.at == self.line.len() + 1
+    }
 }
 
-// The end of the field that begins at a place.
-pub fn next_field(s: &[u8], at: usize) -> usize
-    ensures { Found space s.now at result }
+// Where the first space stands.
+fn first_space(s: &[u8]) -> Option<usize>
+    ensures { result ≡ position (λ x. x == space) s.now }
 {
-    find(s, at, b' ')
+    s.iter().position(|b| *b == b' ')
 }
 
-// Every field of the line was read, and none was wrong.
-pub fn is_read(s: &[u8], at: usize) -> bool
-    ensures { result ≡ is_read s.now at }
+// How many bytes come before the first space.
+fn field_len(s: &[u8]) -> usize
+    ensures value { result ≡ length (before space s.now) }
+    ensures within { result ≤ length s.now }
 {
-    at == s.len() + 1
+    first_space(s).unwrap_or(s.len())
 }
 
-// The value of a hexadecimal digit in lower case; 16 for any other byte.
-fn digit(c: u8) -> usize
-    ensures { Digit c result }
+// The value of a hexadecimal digit in lower case.
+fn digit(c: u8) -> Option<u8>
+    ensures value { result ≡ digit_of c }
+    ensures small { IfSome result (λ d. d < 16) }
 {
-    if c < b'0' {
-        return 16;
+    match c {
+        b'0'..=b'9' => Some(c - b'0'),
+        b'a'..=b'f' => Some(c - b'a' + 10),
+        _ => None,
     }
-    if c <= b'9' {
-        return c as usize - 48;
-    }
-    if c < b'a' {
-        return 16;
-    }
-    if c <= b'f' {
-        return c as usize - 87;
-    }
-    16
 }
 
-// The number that decimal digits spell; wrong over most, with another byte, or with no digit.
-fn number(s: &[u8], most: u32) -> Parsed
+// Whether a byte is a hexadecimal digit in lower case.
+fn is_digit(c: u8) -> bool
+    ensures { result ≡ is_some (digit_of c) }
+{
+    digit(c).is_some()
+}
+
+// A value and one decimal digit more.
+fn extended(value: usize, c: u8, most: u32) -> Option<usize>
+    requires { value ≤ most }
+    ensures value { result ≡ extended most value (digit_of c) }
+    ensures small { IfSome result (λ v. v ≤ most) }
+{
+    let d = usize::from(digit(c)?);
+    let value = value * 10 + d;
+    if 9 < d || (most as usize) < value {
+        return None;
+    }
+    Some(value)
+}
+
+// The number that decimal digits spell; None over most, with another byte, or with no digit.
+fn number(s: &[u8], most: u32) -> Option<usize>
     ensures { result ≡ number_of most s.now }
 {
-    if s.len() == 0 {
-        return Parsed::Wrong;
+    if s.is_empty() {
+        return None;
     }
-    let top = most as usize;
-    let mut v: usize = 0;
-    let mut i = 0;
-    while i < s.len() {
-        let d = digit(s[i]);
-        if 9 < d {
-            return Parsed::Wrong;
-        }
-        if top < v * 10 + d {
-            return Parsed::Wrong;
-        }
-        v = v * 10 + d;
-        i += 1;
+    let mut value = 0;
+    for c in s {
+        value = extended(value, *c, most)?;
     }
-    Parsed::Value(v)
+    Some(value)
 }
 
-// A wrong field of a line of so many bytes.
-fn wrong(len: usize) -> Field
-    requires { len < 2 ^ 63 }
-    ensures { result ≡ field_of len 0 Parsed.Wrong }
+// Digits only.
+fn are_digits(s: &[u8]) -> bool
+    ensures { result ≡ list_all (λ c. is_some (digit_of c)) s.now }
 {
-    Field {
-        value: 0,
-        next: len + 2,
-    }
-}
-
-// The field at a place, as a decimal number of at most `most`.
-pub fn read_number(s: &[u8], at: usize, most: u32) -> Field
-    ensures { result ≡ read_number most s.now at }
-{
-    if s.len() < at {
-        return wrong(s.len());
-    }
-    let end = next_field(s, at);
-    let Parsed::Value(value) = number(&s[at..end], most) else {
-        return wrong(s.len());
-    };
-    Field {
-        value,
-        next: end + 1,
-    }
-}
-
-// As many fields as there is room for, from a place on, as decimal numbers of at most `most`. Answers the place of the next field.
-pub fn read_numbers(s: &[u8], at: usize, most: u32, values: &mut [usize]) -> usize
-    ensures { NumbersRead most s.now at values.old result values.new }
-{
-    let mut next = at;
-    let mut i = 0;
-    while i < values.len() {
-        let field = read_number(s, next, most);
-        values[i] = field.value;
-        next = field.next;
-        i += 1;
-    }
-    next
+    s.iter().all(|c| is_digit(*c))
 }
 
 // Pairs of digits only.
 fn hex_right(s: &[u8]) -> bool
     ensures { result ≡ hex_right s.now }
 {
-    let mut i = 0;
-    while 2 <= s.len() - i {
-        if 15 < digit(s[i]) {
-            return false;
-        }
-        if 15 < digit(s[i + 1]) {
-            return false;
-        }
-        i += 2;
-    }
-    i == s.len()
+    s.len() % 2 == 0 && are_digits(s)
 }
 
 // The byte of a pair of digits.
 fn pair(high: u8, low: u8) -> u8
     ensures { result ≡ pair_value high low }
 {
-    ((digit(high) * 16 + digit(low)) % 256) as u8
+    digit(high).unwrap_or(0) * 16 + digit(low).unwrap_or(0)
 }
 
 // The bytes of pairs of digits.
@@ -163,60 +161,29 @@ fn lay_pairs(s: &[u8], out: &mut [u8])
     requires { length s.now / 2 ≤ length out.old }
     ensures { out.new ≡ sets out.old 0 (hex_bytes s.now) }
 {
-    let mut i = 0;
-    let mut k = 0;
-    while 2 <= s.len() - i {
-        out[k] = pair(s[i], s[i + 1]);
-        i += 2;
-        k += 1;
+    for (k, digits) in s.chunks_exact(2).enumerate() {
+        out[k] = pair(digits[0], digits[1]);
     }
+}
+
+// How many bytes a byte string has, laid at the start of the output; a wrong one, and one that is longer, leaves the output as it is.
+fn bytes(s: &[u8], out: &mut [u8]) -> Option<usize>
+    ensures { BytesRead s.now out.old result out.new }
+{
+    if is_dash(s) {
+        return Some(0);
+    }
+    let n = s.len() / 2;
+    if s.is_empty() || !hex_right(s) || out.len() < n {
+        return None;
+    }
+    lay_pairs(s, out);
+    Some(n)
 }
 
 // `-`
 fn is_dash(s: &[u8]) -> bool
     ensures { result ≡ is_dash s.now }
 {
-    if s.len() != 1 {
-        return false;
-    }
-    s[0] == b'-'
-}
-
-// How many bytes a byte string has, laid at the start of the output; a wrong one, and one that is longer, leaves the output as it is.
-fn bytes(s: &[u8], out: &mut [u8]) -> Parsed
-    ensures { BytesRead s.now out.old result out.new }
-{
-    if is_dash(s) {
-        return Parsed::Value(0);
-    }
-    if s.len() < 1 {
-        return Parsed::Wrong;
-    }
-    if !hex_right(s) {
-        return Parsed::Wrong;
-    }
-    let n = s.len() / 2;
-    if out.len() < n {
-        return Parsed::Wrong;
-    }
-    lay_pairs(s, out);
-    Parsed::Value(n)
-}
-
-// The field at a place, as a byte string: `-` for none, else pairs of hexadecimal digits. Its value is how many bytes it has;
-// they are laid at the start of the output, which a wrong or longer one leaves as it is.
-pub fn read_hex(s: &[u8], at: usize, out: &mut [u8]) -> Field
-    ensures { HexRead s.now at out.old result out.new }
-{
-    if s.len() < at {
-        return wrong(s.len());
-    }
-    let end = next_field(s, at);
-    let Parsed::Value(value) = bytes(&s[at..end], out) else {
-        return wrong(s.len());
-    };
-    Field {
-        value,
-        next: end + 1,
-    }
+    matches!(s, [b'-'])
 }

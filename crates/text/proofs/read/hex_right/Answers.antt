@@ -1,29 +1,10 @@
--- `text::read::hex_right` meets its contract: the pairs left are right exactly if all of them are.
-use Rattle.std.proofs.Common.{sym, ◌∙◌, arith}
-use Rattle.text.proofs.ReadLaws.{hex_right_next, hex_right-first, hex_right_second, hex_right-rest}
+-- `text::read::hex_right` meets its contract: an even number of bytes, each a digit, is pairs of digits.
+use Rattle.std.proofs.Common.{◌%◌, length, sym, ◌∙◌, ne_eqb}
+use Rattle.text.proofs.ReadLaws.{hex_right-even, hex_right-odd}
 use Rattle.text.proofs.read.hex_right.Goals as goal
 
-pub returns-then-digit-gt15 : goal.returns-then-digit-gt15
-returns-then-digit-gt15 c =
-    let digit = c.digit in
-    sym (hex_right-first c.args.s.now c.loop-i.i digit.result (omega arith) digit.ensures.value c.if-digit-gt15.true)
-    ∙ c.loop-i.invariant.1
+pub returns-then-s-eq0 : goal.returns-then-s-eq0
+returns-then-s-eq0 c = c.are_digits.ensures ∙ sym (hex_right-even c.args.s.now c.if-s-eq0.true)
 
-pub returns-then-digit-gt15-2 : goal.returns-then-digit-gt15-2
-returns-then-digit-gt15-2 c =
-    let first = c.digit in
-    let second = c.digit-in-loop-i in
-    let values =
-    hex_right_second c.args.s.now c.loop-i.i first.result second.result (omega arith) first.ensures.value second.ensures.value in
-    sym (values (omega arith) c.if-digit-gt15-2.true) ∙ c.loop-i.invariant.1
-
-pub loop-i-preserved : goal.loop-i-preserved
-loop-i-preserved c =
-    let first = c.digit in
-    let second = c.digit-in-loop-i in
-    let values =
-    hex_right_next c.args.s.now c.loop-i.i first.result second.result (omega arith) first.ensures.value second.ensures.value in
-    (omega arith, sym (values (omega arith) (omega arith)) ∙ c.loop-i.invariant.1)
-
-pub returns : goal.returns
-returns c = sym (hex_right-rest _ c.loop-i.i (omega arith) (omega arith)) ∙ c.loop-i.invariant.1
+pub returns-else-s-eq0 : goal.returns-else-s-eq0
+returns-else-s-eq0 c = ne_eqb (length c.args.s.now % 2) 0 c.if-s-eq0.false ∙ sym (hex_right-odd c.args.s.now c.if-s-eq0.false)

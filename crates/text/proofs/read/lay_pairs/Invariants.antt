@@ -1,12 +1,11 @@
-use Rattle.std.proofs.Common.{◌≡◌, ◌-◌, ◌*◌, ◌≤◌, length, drop}
-use lib.Seq.{sets}
+use Rattle.std.proofs.Common.{◌≡◌, ◌*◌, ◌+◌, length}
+use Rattle.std.specs.Slice.Iter.{chunks_exact_rest, chunks_exact_size}
+use Rattle.std.proofs.lemmas.List.Edits.{sets}
 use Rattle.text.specs.Read.{hex_bytes}
 use Rattle.text.proofs.read.lay_pairs.Given as goal
 
-abbrev pub invariant-loop-i : goal.invariant-loop-i
-invariant-loop-i l =
-    (l.i ≤ length l.s) × (l.i ≡ 2 * l.k) × (length l.out ≡ length l.initial.out)
-    × (sets l.out l.k (hex_bytes (drop l.i l.s)) ≡ sets l.initial.out 0 (hex_bytes l.s))
-
-abbrev pub decreases-loop-i : goal.decreases-loop-i
-decreases-loop-i l = length l.s - l.i
+abbrev pub invariant-loop-k : goal.invariant-loop-k
+invariant-loop-k l =
+    (chunks_exact_size l.k-iterator.iter ≡ 2) × (length (chunks_exact_rest l.k-iterator.iter) + 2 * l.k-iterator.count ≡ length l.s)
+    × (length l.out ≡ length l.initial.out)
+    × (sets l.out l.k-iterator.count (hex_bytes (chunks_exact_rest l.k-iterator.iter)) ≡ sets l.initial.out 0 (hex_bytes l.s))
