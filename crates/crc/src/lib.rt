@@ -3,40 +3,43 @@
 // `crc_steps` takes a byte in.
 #![tactic(auto)]
 
-ghost use Rattle.std.specs.Prelude.{◌≡◌, take};
+ghost use Rattle.std.specs.Prelude.{◌≡◌, ◌^◌, ◌<◌, ◌≤◌, take};
 ghost use Rattle.rules.specs.CheckSums.{crc, crc8, crc16, sum, sum_length, sum_right};
+ghost use Rattle.crc_steps.specs.HalfBytes.{ByTable};
 
 use byte_slices::{low_first, matches};
-use crc_steps::{crc8_byte, crc8_table, crc16_byte, crc16_table};
+use crc_steps::Register;
 use frame_sizes::sum_length;
 use rules::kinds::Bus;
+
+// The check sum of the bytes, in a register that begins with its start.
+fn crc_from<R: Register>(start: R, s: &[u8]) -> R
+    requires begun { R.number start ≡ R.algorithm.start }
+    requires start_in_width { R.algorithm.start < 2 ^ R.width }
+    requires holds_a_byte { 2 ^ 8 ≤ 2 ^ R.width }
+    requires by_table { ByTable R.width R.algorithm R.halves }
+    ensures { R.number result ≡ crc R.algorithm s.now }
+{
+    let table = R::table();
+    let mut v = start;
+    for b in s {
+        v = v.after_byte(&table, *b);
+    }
+    v
+}
 
 // The CRC-8 of the bytes.
 pub fn crc8(s: &[u8]) -> u8
     ensures { result ≡ crc crc8 s.now }
 {
-    let table = crc8_table();
-    let mut v: u8 = 0xFF;
-    let mut i = 0;
-    while i < s.len() {
-        v = crc8_byte(&table, v, s[i]);
-        i += 1;
-    }
-    v
+    crc_from(0xFFu8, s)
 }
 
 // The CRC-16 of the bytes.
 pub fn crc16(s: &[u8]) -> u16
     ensures { result ≡ crc crc16 s.now }
 {
-    let table = crc16_table();
-    let mut v: u16 = 0xFFFF;
-    let mut i = 0;
-    while i < s.len() {
-        v = crc16_byte(&table, v, s[i]);
-        i += 1;
-    }
-    v
+    crc_from(0xFFFFu16, s)
 }
 
 // The check sum's bytes as they stand in a frame. On I²C it has one; the second then means nothing.

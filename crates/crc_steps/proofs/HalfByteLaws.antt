@@ -70,9 +70,3 @@ module _ {width : ℕ} {k : Algorithm} {h : Halves} (halved : Halved width k h) 
       ap (half_step h table) (four_bits (bit_xor r b) x)
       ∙ four_bits (times 4 (bit k) (bit_xor r b)) (times-lt width k halved.bounded 4 (bit_xor r b) x)
       ∙ sym (byte_halves k r b)
-
--- a table step from two half steps
-pub two_halves : (h : Halves) (table : List ℕ) (r b : ℕ) {v w : ℕ} → v ≡ half_step h table (bit_xor r b) → w ≡ half_step h table v
-    → w ≡ table_step h table r b
-unfolding table_step
-two_halves h table r b first second = second ∙ ap (half_step h table) first

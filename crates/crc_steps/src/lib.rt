@@ -2,9 +2,9 @@
 // table once, outside its loop, and lends it.
 #![tactic(auto)]
 
-ghost use Rattle.std.specs.Prelude.{◌≡◌, true};
-ghost use Rattle.rules.specs.CheckSums.{crc8, crc16};
-ghost use Rattle.crc_steps.specs.HalfBytes.{high_half, low_half, table_right, half_step, table_step, ByTable};
+ghost use Rattle.std.specs.Prelude.{◌≡◌, true, List, ℕ, ◌^◌, ◌<◌, bit_xor};
+ghost use Rattle.rules.specs.CheckSums.{Algorithm, crc8, crc16};
+ghost use Rattle.crc_steps.specs.HalfBytes.{Halves, high_half, low_half, table_right, half_step, table_step, ByTable};
 ghost use Rattle.crc_steps.specs.HalfBytes.{EightBitsByTable};
 
 // Entry i is the register after four bits, from i in the high half.
@@ -28,7 +28,7 @@ pub fn other_half_first_fails()
     ensures { (ByTable 8 crc8 low_half → ⊥) × (ByTable 16 crc16 high_half → ⊥) }
 {}
 
-// The table of CRC-8.
+// The table of CRC-8. README.md names this function and the next.
 pub fn crc8_table() -> [u8; 16]
     ensures { table_right crc8 high_half result ≡ true }
 {
@@ -42,32 +42,95 @@ pub fn crc16_table() -> [u16; 16]
     CRC16_TABLE
 }
 
-// The CRC-8 register half a byte further: the high half leaves first.
-fn crc8_half(table: &[u8; 16], r: u8) -> u8
-    ensures { result ≡ half_step high_half table.now r }
-{
-    (r << 4) ^ table[(r >> 4) as usize]
+// The register of a check sum: the algorithm, the half that leaves it first, its width, and the number that it holds.
+pub trait Register: Copy + Drop {
+    type Table: Drop;
+
+    ghost algorithm: { Algorithm };
+
+    ghost halves: { Halves };
+
+    ghost width: { ℕ };
+
+    ghost number: { Self → ℕ };
+
+    ghost entries: { Self.Table → List ℕ };
+
+    // The table of the check sum.
+    fn table() -> Self::Table
+        ensures { table_right algorithm halves (entries result) ≡ true };
+
+    // A byte added.
+    fn with_byte(self, b: u8) -> Self
+        ensures { number result ≡ bit_xor (number self) b };
+
+    // Half a byte further.
+    fn after_half(self, table: &Self::Table) -> Self
+        ensures step { number result ≡ half_step halves (entries table.now) (number self) }
+        ensures in_width { number result < 2 ^ width };
+
+    // One byte further.
+    #[tactic(auto, unfolding(crate::specs::HalfBytes::table_step))]
+    final fn after_byte(self, table: &Self::Table, b: u8) -> Self
+        ensures step { number result ≡ table_step halves (entries table.now) (number self) b }
+        ensures in_width { number result < 2 ^ width }
+    {
+        self.with_byte(b).after_half(table).after_half(table)
+    }
 }
 
-// The CRC-8 register one byte further.
-pub fn crc8_byte(table: &[u8; 16], r: u8, b: u8) -> u8
-    ensures { result ≡ table_step high_half table.now r b }
-{
-    let v = crc8_half(table, r ^ b);
-    crc8_half(table, v)
+// The register of CRC-8: the high half leaves first.
+impl Register for u8 {
+    type Table = [u8; 16];
+
+    ghost algorithm = { crc8 };
+
+    ghost halves = { high_half };
+
+    ghost width = { 8 };
+
+    ghost number = { λ r. r };
+
+    ghost entries = { λ t. t };
+
+    fn table() -> [u8; 16] {
+        crc8_table()
+    }
+
+    fn with_byte(self, b: u8) -> u8 {
+        self ^ b
+    }
+
+    #[tactic(auto, unfolding(crate::specs::HalfBytes::half_step))]
+    fn after_half(self, table: &[u8; 16]) -> u8 {
+        (self << 4) ^ table[usize::from(self >> 4)]
+    }
 }
 
-// The CRC-16 register half a byte further: the low half leaves first.
-fn crc16_half(table: &[u16; 16], r: u16) -> u16
-    ensures { result ≡ half_step low_half table.now r }
-{
-    (r >> 4) ^ table[(r % 16) as usize]
-}
+// The register of CRC-16: the low half leaves first.
+impl Register for u16 {
+    type Table = [u16; 16];
 
-// The CRC-16 register one byte further.
-pub fn crc16_byte(table: &[u16; 16], r: u16, b: u8) -> u16
-    ensures { result ≡ table_step low_half table.now r b }
-{
-    let v = crc16_half(table, r ^ (b as u16));
-    crc16_half(table, v)
+    ghost algorithm = { crc16 };
+
+    ghost halves = { low_half };
+
+    ghost width = { 16 };
+
+    ghost number = { λ r. r };
+
+    ghost entries = { λ t. t };
+
+    fn table() -> [u16; 16] {
+        crc16_table()
+    }
+
+    fn with_byte(self, b: u8) -> u16 {
+        self ^ u16::from(b)
+    }
+
+    #[tactic(auto, unfolding(crate::specs::HalfBytes::half_step))]
+    fn after_half(self, table: &[u16; 16]) -> u16 {
+        (self >> 4) ^ table[usize::from(self % 16)]
+    }
 }

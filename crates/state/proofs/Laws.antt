@@ -1,13 +1,13 @@
 -- The malformed-state rule on the numbers that a state of the code holds: `held` is the length of the waiting bytes that it says, and `len`
 -- that of the last reply. And what stands in a buffer behind the bytes in use, and the fresh head.
-use mathlib.Core.Path.{◌≡◌, refl, sym, ap, ◌∙◌}
+use mathlib.Core.Path.{◌≡◌, sym, ap, ◌∙◌}
 use mathlib.Core.Bool.{◌&&◌}
-use mathlib.Core.List.{List, ◌++◌}
+use mathlib.Core.List.{List}
 use Prim.Native.Nat.{ℕ, ◌-◌, ◌%◌, ◌≤◌}
 use native.Mathlib.Omega.{arith}
 use native.Mathlib.Nat.{mod-le}
 use lib.Dec.{leb}
-use lib.ListN.{length, take, drop, length-append, take-append-drop}
+use lib.ListN.{length, drop, length-append, take-append-drop}
 use lib.Seq.{take_at}
 use Rattle.rules.specs.State as rules
 use Rattle.rules.specs.State.{used, upload_formed}

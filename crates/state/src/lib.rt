@@ -1,7 +1,7 @@
 // Document 01, "State": the state of a board, the sizes that belong to it, the fresh board, which is built here and nowhere else,
 // its head, which is all of it but the two buffers, and the changes that calls make to a head. What a state means is `view`, in
 // specs/View.antt; what a head means with any two buffers is the view of `state_with`.
-#![tactic(auto)]
+#![tactic(auto, unfolding(rules::specs::State::used))]
 
 ghost use Rattle.std.specs.Prelude.{◌≡◌, List, [], ℕ, length};
 ghost use Rattle.rules.specs.declared.kinds.Bus.{Bus};
@@ -72,15 +72,7 @@ impl Head {
     pub fn with_address(self, address: Address) -> Self
         ensures { (w l : List ℕ) → view (state_with result w l) ≡ with_address (view (state_with self w l)) address }
     {
-        let running = self.running;
-        let counts = self.counts;
-        let len = self.len;
-        Self {
-            address,
-            running,
-            counts,
-            len,
-        }
+        Self { address, ..self }
     }
 
     // Write and finalize: another upload, whose waiting bytes begin the lent buffer w.
@@ -165,9 +157,8 @@ impl State {
     pub fn head(self) -> Head
         ensures { state_with result self.upload.waiting self.last.bytes ≡ self }
     {
-        let address = self.address;
         Head {
-            address,
+            address: self.address,
             running: self.running,
             counts: Counts {
                 next: self.upload.next,
@@ -186,9 +177,8 @@ impl State {
     ) -> Self
         ensures { result ≡ state_with h waiting bytes }
     {
-        let address = h.address;
         Self {
-            address,
+            address: h.address,
             running: h.running,
             upload: Upload {
                 next: h.counts.next,

@@ -1,17 +1,6 @@
--- `crc::crc8` meets its contract: at each turn the register is `Reached`.
-use Rattle.std.proofs.Common.{◌-◌, arith}
-use Rattle.rules.specs.CheckSums.{crc8}
-use Rattle.crc_steps.proofs.HalfByteLaws.{crc8_halved}
-use Rattle.crc.proofs.Register.{reached_none, reached_next, reached_all}
+-- `crc::crc8` meets its contract: by `crc_from`, whose steps by the table are those of the algorithm.
+use Rattle.crc_steps.proofs.HalfByteLaws.{crc8_halved, eight_bits}
 use Rattle.crc.proofs.crc8.Goals as goal
 
-pub loop-i-init : goal.loop-i-init
-loop-i-init c = reached_none crc8_halved _ _ c.crc8_table-table.ensures
-
-pub loop-i-preserved : goal.loop-i-preserved
-loop-i-preserved c =
-    let small = c.shared_slice_known-in-loop-i-1.given c.loop-i.i in
-    reached_next crc8_halved _ _ c.loop-i.v c.loop-i.i _ c.loop-i.invariant (omega arith) (omega (arith, small)) c.crc8_byte-v.ensures
-
-pub returns : goal.returns
-returns c = reached_all crc8_halved _ _ c.loop-i.v c.loop-i.i c.loop-i.invariant (omega arith)
+pub crc_from-requires-clause-by_table : goal.crc_from-requires-clause-by_table
+crc_from-requires-clause-by_table c = eight_bits crc8_halved
