@@ -5,6 +5,7 @@ use mathlib.Core.Bool.{true}
 use mathlib.Core.List.{List, ◌++◌}
 use Prim.Native.Nat.{ℕ, ◌+◌, ◌-◌, ◌≤◌, ◌<◌}
 use native.Mathlib.Omega.{arith}
+use Rattle.std.specs.Prelude.{Result, Ok, Err}
 use lib.ListN.{length, take, drop, length-take, length-drop, take-append-drop}
 use lib.Seq.{length-take-le}
 use borrow.Author.Tests.{eqb-false, lt-ltb, le-ltb}
@@ -33,10 +34,8 @@ use Rattle.fields.proofs.Laws.{part_put, part_behind, overlay-part}
 use Rattle.state_bytes.specs.StateBytes.{waiting_from, reply_from, state_size, state_held, state_at, head_written, state_written}
 use Rattle.state_bytes.proofs.Laws.{said_at, held_long, state_fits}
 use Rattle.refusal.specs.Checks.{check_of}
-use Rattle.refusal.specs.declared.Check.{Check}
-use Rattle.refusal.specs.declared.Check.TheVariants.{Passed, Refused}
 use Rattle.refusal.proofs.Laws.{Refusal, check_passed, check_refused}
-use Rattle.answer.specs.declared.HeadAnswer.{HeadAnswer}
+use Rattle.answer.specs.declared.Answer.{Answer}
 use Rattle.answer.specs.Answered.{CallEffect, call_effect, expected_effect}
 use Rattle.answer.specs.HeadAnswered.{head_effect, Handled}
 use Rattle.handling.proofs.HandleLaws.{handled-received, handled-made, handled-ignored, handled_behind}
@@ -111,7 +110,7 @@ module _ (b w' l' : List ℕ) (s : rules.State) (held len : ℕ) (long : state_s
       ∙ ap (λ (x : rules.State). head_written x (overlay a reply_from s.last)) same
 
 -- a call on the bytes of a profile and a state
-module _ (profile state : List ℕ) (address : ℕ) (flash out : List ℕ) {p : Profile} {h : Head} {a : ℕ} {check : Check}
+module _ (profile state : List ℕ) (address : ℕ) (flash out : List ℕ) {p : Profile} {h : Head} {a : ℕ} {check : Result (Unit {0}) Outcome}
     (p-is : p ≡ profile_at profile) (h-is : h ≡ head_of (state_at state)) (a-is : a ≡ clipped address)
     (checked : (w l : List ℕ) → check ≡ check_of (refusal (profile_of p) (view (state_with h w l)) (length flash) (length out))) where
   -- the check is that of the state that the bytes say
@@ -119,12 +118,12 @@ module _ (profile state : List ℕ) (address : ℕ) (flash out : List ℕ) {p : 
   checked_said =
       rw (p-is, h-is) at (checked (state_at state).upload.waiting (state_at state).last.bytes)
 
-  module _ (o : Outcome) (told : check ≡ Refused o) where
+  module _ (o : Outcome) (told : check ≡ Err o) where
     refused_by : Refusal (refusal (profile_of (profile_at profile)) (view (state_at state)) (length flash) (length out)) o
     refused_by =
         check_refused (profile_of (profile_at profile)) (view (state_at state)) (length flash) (length out) o (sym checked_said ∙ told)
 
-  module _ (told : check ≡ Passed) where
+  module _ (told : check ≡ Ok tt) where
     passed_said : refusal (profile_of (profile_at profile)) (view (state_at state)) (length flash) (length out) ≡ 0
     passed_said = check_passed (profile_of (profile_at profile)) (view (state_at state)) (length flash) (length out) (sym checked_said ∙ told)
 
@@ -146,7 +145,7 @@ module _ (profile state : List ℕ) (address : ℕ) (flash out : List ℕ) {p : 
         ∙ whole state passed_held
 
   -- refused: every byte is as it was
-  pub received-refused-left : (frame : List ℕ) (o : Outcome) → check ≡ Refused o
+  pub received-refused-left : (frame : List ℕ) (o : Outcome) → check ≡ Err o
       → ◌≡◌ {A = ReceivedLeft} (record { number = number o; made = 0; state = state; flash = flash; out = out })
       (received_left profile state address frame flash out)
   unfolding received_left
@@ -162,7 +161,7 @@ module _ (profile state : List ℕ) (address : ℕ) (flash out : List ℕ) {p : 
       )
 
   -- handled: the waiting bytes' part of the state is lent
-  module _ (frame : List ℕ) (told : check ≡ Passed) (r : HeadAnswer) (w' d out' : List ℕ)
+  module _ (frame : List ℕ) (told : check ≡ Ok tt) (r : Answer Head) (w' d out' : List ℕ)
       (handling : Handled p.bus h r (part state waiting_from largest_page) w' d out' out
       (λ l. handled (profile_of p) (view (state_with h (part state waiting_from largest_page) l)) a frame flash
       (verdict p.bus p.longest h.running h.address a frame))
@@ -219,7 +218,7 @@ module _ (profile state : List ℕ) (address : ℕ) (flash out : List ℕ) {p : 
 
     -- else the new state is written
     pub received_kept_left : {b : List ℕ} → length w' ≡ largest_page → number r.outcome < 2
-        → ((w l : List ℕ) → b ≡ head_written (view (state_with r.head w l))
+        → ((w l : List ℕ) → b ≡ head_written (view (state_with r.state w l))
         (overlay (take waiting_from state ++ (w' ++ drop largest_page (drop waiting_from state))) reply_from
         (kept_reply p.bus (take (made r.outcome) out')
         (part (take waiting_from state ++ (w' ++ drop largest_page (drop waiting_from state))) reply_from largest_frame))))
@@ -232,27 +231,27 @@ module _ (profile state : List ℕ) (address : ℕ) (flash out : List ℕ) {p : 
         let l' : List ℕ = kept_reply p.bus (take (made r.outcome) out') l in
         let long = passed_long told in
         let kept : c.number < 2 = omega (arith, number_is) in
-        let state_is : view (state_with r.head w' l') ≡ c.state = ap (λ (x : CallEffect). x.state) effect_is in
+        let state_is : view (state_with r.state w' l') ≡ c.state = ap (λ (x : CallEffect). x.state) effect_is in
         let unrefused =
         refusal_unrefused (profile_of (profile_at profile)) (view (state_at state)) (length flash) (length out) (passed_said told) in
         let formed =
         (received_formed_call (profile_of (profile_at profile)) (view (state_at state)) flash address frame (length out)
         unrefused.well_formed_holds).well_formed_holds in
         let fits = state_fits (profile_of (profile_at profile)) c.state unrefused.in_range_holds formed in
-        let waiting_is : c.state.upload.waiting ≡ rules.used r.head.counts.held w' =
+        let waiting_is : c.state.upload.waiting ≡ rules.used r.state.counts.held w' =
         sym (ap (λ (s : rules.State). s.upload.waiting) state_is) in
-        let last_is : c.state.last ≡ rules.used r.head.len l' = sym (ap (λ (s : rules.State). s.last) state_is) in
-        let held_most : r.head.counts.held ≤ largest_page =
-        omega (arith, fits.waiting, ap length waiting_is, length-used r.head.counts.held w') in
-        let len-most : r.head.len ≤ largest_frame = omega (arith, fits.last, ap length last_is, length-used r.head.len l') in
+        let last_is : c.state.last ≡ rules.used r.state.len l' = sym (ap (λ (s : rules.State). s.last) state_is) in
+        let held_most : r.state.counts.held ≤ largest_page =
+        omega (arith, fits.waiting, ap length waiting_is, length-used r.state.counts.held w') in
+        let len-most : r.state.len ≤ largest_frame = omega (arith, fits.last, ap length last_is, length-used r.state.len l') in
         let xs : List ℕ = take (made r.outcome) out' in
         let long-l : length l ≡ largest_frame = length-take-le largest_frame (drop reply_from state) (simp length-drop (omega arith)) in
         let long-l' = length-kept_reply p.bus xs l (omega (arith, length-take_most (made r.outcome) out', made_most.1)) ∙ long-l in
         let free = passed told (part state waiting_from largest_page) in
         let behind-last = handled_behind p h (part state waiting_from largest_page) flash out a frame free r w' d out' handling l in
         let put =
-        state_put state w' l' c.state r.head.counts.held r.head.len long room held_most len-most waiting_is last_is
-        handling.answered.behind behind-last long-l' p.bus xs b (view (state_with r.head w' l')) refl state_is (written w' l') in
+        state_put state w' l' c.state r.state.counts.held r.state.len long room held_most len-most waiting_is last_is
+        handling.answered.behind behind-last long-l' p.bus xs b (view (state_with r.state w' l')) refl state_is (written w' l') in
         rw (
           lt-ltb c.number 2 kept,
           number_is,
@@ -263,12 +262,12 @@ module _ (profile state : List ℕ) (address : ℕ) (flash out : List ℕ) {p : 
         )
 
   -- a read: the last reply's part of the state is lent
-  pub read_refused-left : (o : Outcome) → check ≡ Refused o
+  pub read_refused-left : (o : Outcome) → check ≡ Err o
       → ◌≡◌ {A = ReadLeft} (record { number = number o; made = 0; out = out }) (read_left profile state address flash out)
   unfolding read_left read_out
   read_refused-left o told = let r = refused_by o told in rw (r.not_zero, r.numbered)
 
-  module _ (told : check ≡ Passed) where
+  module _ (told : check ≡ Ok tt) where
     pub read_fits : (h.len ≤ largest_frame) × (h.len ≤ length out)
     read_fits =
         last_fits p h (part state waiting_from largest_page) (part state reply_from largest_frame) (length flash) (length out)

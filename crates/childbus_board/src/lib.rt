@@ -4,16 +4,25 @@
 // stand, and only their bytes that mean something are touched.
 #![tactic(auto)]
 
-ghost use Rattle.std.specs.Prelude.{◌≡◌};
+ghost use Rattle.std.specs.Prelude.{◌≡◌, List, ℕ, length};
+ghost use Rattle.rules.specs.Numbers.{Unrefused};
+ghost use Rattle.rules.specs.Frames as frames;
+ghost use Rattle.rules.specs.Board.{handled};
+ghost use Rattle.state.specs.View.{largest_page, view};
+ghost use Rattle.state.specs.Heads.{state_with};
+ghost use Rattle.profile.specs.View.{profile_of};
+ghost use Rattle.answer.specs.HeadAnswered.{Handled};
 ghost use Rattle.childbus_board.specs.BoardBytes.{fresh_left, FreshLeft, received_left, ReceivedLeft, read_left, ReadLeft};
 ghost use Rattle.childbus_board.specs.TallyCall.{CountedLeft, counted_left};
 ghost use Rattle.childbus_board.specs.Kept.{Kept};
 
+use answer::Answer;
 use fields::clip;
 use handling::handle;
 use numbers::{board_number, reply_length};
-use refusal::Check;
-use state::State;
+use profile::Profile;
+use rules::kinds::Outcome;
+use state::{Head, State};
 use state_bytes::{REPLY_AT, STATE_BYTES, WAITING_AT};
 
 // The fresh board.
@@ -21,11 +30,34 @@ pub fn childbus_fresh(state: &mut [u8]) -> u32
     ensures { ◌≡◌ {A = FreshLeft} (record { number = result; state = state.new }) (fresh_left state.old) }
 {
     if state.len() < STATE_BYTES {
-        return 4;
+        return board_number(Outcome::StateMalformed);
     }
     state_writer::clear(state);
     state_writer::head_to(State::fresh().head(), state);
     0
+}
+
+// A frame handled with the waiting bytes where they stand in a buffer.
+fn handle_part(
+    p: Profile,
+    h: Head,
+    address: u8,
+    frame: &[u8],
+    waiting: &mut [u8],
+    flash: &mut [u8],
+    out: &mut [u8],
+) -> Answer<Head>
+    requires by_index { (w l : List ℕ) → Unrefused (profile_of p) (view (state_with h w l)) (length flash.old) (length out.old) }
+    requires waiting_len { length waiting.old ≡ largest_page }
+    ensures { Handled p.bus h result waiting.old waiting.new flash.new out.new out.old
+        (λ l. handled (profile_of p) (view (state_with h waiting.old l)) address frame.now flash.old
+        (frames.verdict p.bus p.longest h.running h.address address frame.now))
+        (frames.verdict p.bus p.longest h.running h.address address frame.now) }
+{
+    let Some(page) = waiting.as_mut_array() else {
+        unreachable!()
+    };
+    handle(p, h, address, frame, page, flash, out)
 }
 
 // A received frame.
@@ -44,12 +76,11 @@ pub fn childbus_receive(
 {
     let p = profile_bytes::profile_from(profile);
     let h = state_bytes::head_from(state);
-    let check = refusal::refuse(p, h, flash.len(), out.len());
-    if let Check::Refused(outcome) = check {
+    if let Err(outcome) = refusal::refuse(p, h, flash.len(), out.len()) {
         *made = 0;
         return board_number(outcome);
     }
-    let handled = handle(
+    let handled = handle_part(
         p,
         h,
         clip(address),
@@ -59,7 +90,7 @@ pub fn childbus_receive(
         out,
     );
     let outcome = handled.outcome;
-    let left = handled.head;
+    let left = handled.state;
     let n = reply_length(outcome);
     *made = n;
     let number = board_number(outcome);
@@ -115,8 +146,7 @@ pub fn childbus_read(
 {
     let built = profile_bytes::profile_from(profile);
     let held = state_bytes::head_from(state);
-    let check = refusal::refuse(built, held, flash.len(), out.len());
-    if let Check::Refused(outcome) = check {
+    if let Err(outcome) = refusal::refuse(built, held, flash.len(), out.len()) {
         *made = 0;
         return board_number(outcome);
     }

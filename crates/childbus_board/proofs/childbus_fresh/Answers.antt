@@ -10,7 +10,7 @@ use Rattle.childbus_board.proofs.childbus_fresh.Goals as goal
 
 pub returns-then-state-lt-STATE_BYTES : goal.returns-then-state-lt-STATE_BYTES
 unfolding fresh_left
-returns-then-state-lt-STATE_BYTES c = rw (lt-leb state_size _ c.if-state-lt-STATE_BYTES.true)
+returns-then-state-lt-STATE_BYTES c = rw (c.board_number.ensures, lt-leb state_size _ c.if-state-lt-STATE_BYTES.true)
 
 pub returns : goal.returns
 unfolding fresh_left
