@@ -1,102 +1,111 @@
-// The bytes that the bench lends, in one array: the flash, a copy of it with a count for each page, the flash before an upload, and the
-// bytes that a line gives.
+// The bench's bytes: the flash that it lends, the flash as it was before, and the bytes that a line gives.
 use bench_output::Output;
-use bench_script::fields::Parsed;
-use bench_script::image::{data, file, fill};
+use bench_script::fields::Fault;
+use bench_script::image::{data, file};
 use state::State;
+use std::alloc::{AllocError, Global};
 use std::fs::Files;
 
-// The length of the lent flash. It stands first.
-pub const FLASH: usize = 131072;
-// The flash as it was after the last call, and how often each of its pages was rewritten since.
-pub const COPY: usize = FLASH;
-
-pub const COUNTS: usize = COPY + FLASH;
+// The length of the lent flash.
+const FLASH: usize = 131072;
+// One byte more than the flash has, by which a file with too many is told.
+const IMAGE: usize = FLASH + 1;
 // The most pages that a working flash has.
 pub const PAGES: usize = State::LARGEST_FLASH / State::SMALLEST_PAGE;
-// The flash before the first write of an upload.
-pub const EARLIER: usize = COUNTS + PAGES;
-// The bytes that a line gives, as many as the flash has at the most; a file with more can be told by one byte more.
-pub const IMAGE: usize = EARLIER + FLASH;
 
-pub const MEMORY: usize = IMAGE + FLASH + 1;
-
-// n bytes of the memory from a place on; none where it has not so many.
-pub fn part<'a>(memory: &'a [u8], at: usize, n: usize) -> &'a [u8] {
-    if memory.len() < at {
-        return &memory[0..0];
-    }
-    if memory.len() - at < n {
-        return &memory[0..0];
-    }
-    &memory[at..at + n]
+#[derive(Drop)]
+pub struct Memory {
+    pub(crate) flash: Vec<u8>,
+    // the flash as it was after the last call, and how often each of its pages was rewritten since
+    pub(crate) copy: Vec<u8>,
+    pub(crate) times: Vec<u8>,
+    // the flash before the first write of an upload
+    pub(crate) earlier: Vec<u8>,
+    // the bytes that a line gave, from the first byte on
+    image: Vec<u8>,
 }
 
-// Copies n bytes from one place to another, if the memory has both.
-pub(crate) fn copy(memory: &mut [u8], from: usize, to: usize, n: usize) {
-    if memory.len() < n {
-        return;
-    }
-    let last = memory.len() - n;
-    if last < from {
-        return;
-    }
-    if last < to {
-        return;
-    }
-    let mut i = 0;
-    while i < n {
-        memory[to + i] = memory[from + i];
-        i += 1;
+// Copies as many bytes as both have.
+pub(crate) fn copy(to: &mut [u8], from: &[u8]) {
+    for (new, old) in to.iter_mut().zip(from) {
+        *new = *old;
     }
 }
 
-// An upload begins: the flash as it is now is kept.
-pub fn keep_earlier(memory: &mut [u8]) {
-    copy(memory, 0, EARLIER, FLASH);
-}
-
-// The map begins anew: every count is 0, and the copy is as the flash.
-pub fn restart_map(memory: &mut [u8]) {
-    if memory.len() < MEMORY {
-        return;
+impl Memory {
+    // Erased flash, and nothing rewritten.
+    pub fn new(alloc: Global) -> Result<Memory, AllocError> {
+        Ok(Memory {
+            flash: vec![in alloc; 0xff; FLASH]?,
+            copy: vec![in alloc; 0xff; FLASH]?,
+            times: vec![in alloc; 0; PAGES]?,
+            earlier: vec![in alloc; 0xff; FLASH]?,
+            image: vec![in alloc; 0; IMAGE]?,
+        })
     }
-    fill(&mut memory[COUNTS..EARLIER], PAGES, 0);
-    copy(memory, 0, COPY, FLASH);
-}
 
-// The bytes that a line gives, put into the image: how many.
-pub fn load_data(output: &mut Output, files: &impl Files, s: &[u8], memory: &mut [u8]) -> Parsed {
-    if memory.len() < MEMORY {
-        return Parsed::Wrong;
+    pub fn flash(&self) -> &[u8] {
+        &self.flash
     }
-    data(output, files, s, &mut memory[IMAGE..])
-}
 
-// The bytes of a file, put into the image: how many.
-pub fn load_file(
-    output: &mut Output,
-    files: &impl Files,
-    name: &[u8],
-    memory: &mut [u8],
-) -> Parsed {
-    if memory.len() < MEMORY {
-        return Parsed::Wrong;
+    // The flash, to be lent to a call.
+    pub fn lent_flash(&mut self) -> &mut [u8] {
+        &mut self.flash
     }
-    file(output, files, name, &mut memory[IMAGE..])
-}
 
-// The flash, all of it one byte; the map begins anew.
-pub fn fill_flash(memory: &mut [u8], b: u8) {
-    fill(memory, FLASH, b);
-    restart_map(memory);
-}
-
-// The first n bytes of the image are put into the flash, from its first byte on; the map begins anew.
-pub fn load_flash(memory: &mut [u8], n: usize) {
-    if FLASH < n {
-        return;
+    // The flash before the first write of an upload.
+    pub fn earlier_flash(&self) -> &[u8] {
+        &self.earlier
     }
-    copy(memory, IMAGE, 0, n);
-    restart_map(memory);
+
+    // The bytes of the image from one place to another, as far as it has them.
+    pub fn image(&self, from: usize, end: usize) -> &[u8] {
+        let end = end.min(FLASH);
+        self.image.get(from.min(end)..end).unwrap_or(&[])
+    }
+
+    // An upload begins: the flash as it is now is kept.
+    pub fn keep_earlier(&mut self) {
+        copy(&mut self.earlier, &self.flash);
+    }
+
+    // The map begins anew: nothing was rewritten, and the copy is as the flash.
+    pub fn restart_map(&mut self) {
+        self.times.fill(0);
+        copy(&mut self.copy, &self.flash);
+    }
+
+    // The bytes that a line gives, put into the image: how many.
+    pub fn load_data(
+        &mut self,
+        output: &mut Output,
+        files: &impl Files,
+        s: &[u8],
+    ) -> Result<usize, Fault> {
+        data(output, files, s, &mut self.image)
+    }
+
+    // The bytes of a file, put into the image: how many.
+    pub fn load_file(
+        &mut self,
+        output: &mut Output,
+        files: &impl Files,
+        name: &[u8],
+    ) -> Result<usize, Fault> {
+        file(output, files, name, &mut self.image)
+    }
+
+    // The flash, all of it one byte; the map begins anew.
+    pub fn fill_flash(&mut self, b: u8) {
+        self.flash.fill(b);
+        self.restart_map();
+    }
+
+    // The first n bytes of the image are put into the flash, from its first byte on; the map begins anew.
+    pub fn load_flash(&mut self, n: usize) {
+        if let Some(bytes) = self.image.get(..n) {
+            copy(&mut self.flash, bytes);
+        }
+        self.restart_map();
+    }
 }

@@ -6,7 +6,7 @@ ghost use Rattle.encoder.specs.Calls.{Encodes};
 use request_bytes::{request_length, write_request};
 use request_range::argument_wrong;
 use rules::kinds::Bus;
-use rules::requests::{Encoded, Request};
+use rules::requests::{EncodeError, Request};
 
 // Encodes a request to a destination, which a general call has none of. The bytes are a write's data.
 pub fn encode(
@@ -16,19 +16,19 @@ pub fn encode(
     destination: usize,
     bytes: &[u8],
     out: &mut [u8],
-) -> Encoded
+) -> Result<usize, EncodeError>
     ensures { Encodes (encoded_number result) (encoded_length result)
         (encoded bus longest request destination bytes.now (length out.old))
         out.old out.new }
 {
     if !profile::frame_in_range(longest) {
-        return Encoded::FrameOutOfRange;
+        return Err(EncodeError::FrameOutOfRange);
     }
     if argument_wrong(bus, longest, request, destination, bytes) {
-        return Encoded::ArgumentOutOfRange;
+        return Err(EncodeError::ArgumentOutOfRange);
     }
     if out.len() < request_length(bus, request, bytes) {
-        return Encoded::OutputTooShort;
+        return Err(EncodeError::OutputTooShort);
     }
-    Encoded::Made(write_request(bus, request, destination, bytes, out))
+    Ok(write_request(bus, request, destination, bytes, out))
 }

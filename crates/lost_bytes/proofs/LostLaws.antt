@@ -5,6 +5,7 @@ use mathlib.Core.List.{List, [], ◌∷◌}
 use Prim.Native.Nat.{ℕ, suc, zero, suc-le-suc, ◌+◌, ◌<◌, ◌≤◌}
 use native.Mathlib.Omega.{arith}
 use native.Mathlib.Numerals.{add-one}
+use Rattle.std.specs.Int.{from_bool}
 use lib.ListN.{length, get_or, take, drop, drop_of_length-le}
 use lib.Seq.{drop-cons}
 use Rattle.lost_bytes.specs.Lost.{lost_byte, lost_from}
@@ -25,6 +26,11 @@ length_part (suc n) (x ∷ xs) = suc-le-suc (length_part n xs)
 pub at_most_one : (b : Bool) {n : ℕ} → n ≡ cond b 1 0 → n ≤ 1
 at_most_one true e = omega arith
 at_most_one false e = omega arith
+
+-- a test as a number
+pub from_test : (b : Bool) → from_bool b ≡ cond b 1 0
+from_test true = refl
+from_test false = refl
 
 module _ (flash : List ℕ) (first : ℕ) (waiting : List ℕ) (address : ℕ) (bytes : List ℕ) where
   -- one byte more is counted

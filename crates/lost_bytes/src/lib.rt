@@ -11,23 +11,14 @@ use state::{State, Upload};
 fn waits_at(first: usize, waiting: &[u8], address: usize, b: u8) -> bool
     ensures { result ≡ waits_at first waiting.now address b }
 {
-    if address < first {
-        return false;
-    }
-    stands_at(waiting, address - first, b)
+    first <= address && stands_at(waiting, address - first, b)
 }
 
-// 1 for a byte that neither waits at its address nor stands in flash there, else 0.
-fn lost_byte(flash: &[u8], first: usize, waiting: &[u8], address: usize, b: u8) -> usize
-    ensures { result ≡ cond (lost_byte flash.now first waiting.now address b) 1 0 }
+// Whether a byte neither waits at its address nor stands in flash there.
+fn lost_byte(flash: &[u8], first: usize, waiting: &[u8], address: usize, b: u8) -> bool
+    ensures { result ≡ lost_byte flash.now first waiting.now address b }
 {
-    if waits_at(first, waiting, address, b) {
-        return 0;
-    }
-    if stands_at(flash, address, b) {
-        return 0;
-    }
-    1
+    !waits_at(first, waiting, address, b) && !stands_at(flash, address, b)
 }
 
 // How many of the bytes from an address on are lost.
@@ -36,29 +27,17 @@ fn lost_from(flash: &[u8], first: usize, waiting: &[u8], address: usize, bytes: 
     ensures { result ≡ lost_from flash.now first waiting.now address bytes.now }
 {
     let mut n = 0;
-    let mut i = 0;
-    while i < bytes.len() {
-        n += lost_byte(flash, first, waiting, address + i, bytes[i]);
-        i += 1;
+    for i in 0..bytes.len() {
+        n += usize::from(lost_byte(flash, first, waiting, address + i, bytes[i]));
     }
     n
-}
-
-// The flash address of the first of n waiting bytes.
-fn first_waiting(next: usize, n: usize) -> usize
-    ensures { result ≡ next - n }
-{
-    if next < n { 0 } else { next - n }
 }
 
 // Still wait: how many bytes wait in an upload, at most the largest page.
 pub fn waiting(u: Upload) -> usize
     ensures { result ≡ waiting_bytes (upload_of u) }
 {
-    if u.held < State::LARGEST_PAGE {
-        return u.held;
-    }
-    State::LARGEST_PAGE
+    u.held.min(State::LARGEST_PAGE)
 }
 
 // Lost: how many bytes that waited before a call are neither waiting nor in flash at their place after it.
@@ -71,9 +50,9 @@ pub fn lost(offset: usize, before: Upload, after: Upload, flash: &[u8]) -> usize
     let m = waiting(after);
     lost_from(
         from(flash, offset),
-        first_waiting(after.next, m),
-        &new[0..m],
-        first_waiting(before.next, n),
-        &old[0..n],
+        after.next.saturating_sub(m),
+        &new[..m],
+        before.next.saturating_sub(n),
+        &old[..n],
     )
 }
