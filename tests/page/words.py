@@ -24,14 +24,15 @@ SUMMARY = "shown.rt"
 # Sentences of the bench's other sources.
 ELSEWHERE = {"upload.since", "changes.page", "board.hex"}
 LEADS = ("do: ", "look for: ", "wrong: ")
-ESCAPES = {"n": "\n", "t": "\t", '"': '"', "\\": "\\"}
+ESCAPES = {"n": "\n", "t": "\t", '"': '"', "\\": "\\", "\n": ""}
 
 
 def strings(text):
-    """The byte strings of a source, over line ends too, with their escapes read."""
+    """The strings of a source, over line ends too, with their escapes read. A value in one is a %."""
     bare = re.sub(r"^\s*//.*$", "", text, flags=re.MULTILINE)
-    for found in re.findall(r'b"((?:[^"\\]|\\.)*)"', bare, flags=re.DOTALL):
-        yield re.sub(r"\\(.)", lambda escape: ESCAPES[escape[1]], found, flags=re.DOTALL)
+    for found in re.findall(r'"((?:[^"\\]|\\.)*)"', bare, flags=re.DOTALL):
+        filled = re.sub(r"\{[^{}]*\}", "%", found)
+        yield re.sub(r"\\(\n *|.)", lambda escape: ESCAPES[escape[1].rstrip(" ")], filled)
 
 
 def bench_strings():

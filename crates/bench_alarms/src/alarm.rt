@@ -1,37 +1,40 @@
 // Alarms in words. What stands between `**` must not be missed. The cases are decided by `alarms`, `lost_bytes` and `upload_ends`.
 use bench_output::Output;
+use std::fmt::Display;
 use upload_ends::UploadEnd;
+
+// Says the first text for 1, the second for more, and nothing for 0.
+fn tell_few(output: &mut Output, n: usize, one: &str, more: impl Display + Drop) {
+    match n {
+        0 => (),
+        1 => output.say(one),
+        _ => output.tell(more),
+    }
+}
 
 // Bytes that are neither waiting nor in flash any more.
 pub fn tell_lost(output: &mut Output, n: usize) {
-    match n {
-        0 => return,
-        1 => output.say("  ** 1 accepted byte is lost: it neither waits nor stands in flash **\n"),
-        _ => output.tell(format_args!(
-            "  ** {n} accepted bytes are lost: they neither wait nor stand in flash **\n"
-        )),
-    }
-    output.say(
-        "    do: write again what is lost, and finalize before a start, a reset, another board or a new write at 0\n",
+    tell_few(
+        output,
+        n,
+        "  ** 1 accepted byte is lost: it neither waits nor stands in flash **\n",
+        format_args!("  ** {n} accepted bytes are lost: they neither wait nor stand in flash **\n"),
     );
-}
-
-// Bytes that wait are not in flash. `OK, ` stands in front after an OK, which must not be taken for bytes in flash.
-fn tell_still_waiting(output: &mut Output, front: &str, n: usize) {
-    match n {
-        0 => (),
-        1 => output.tell(format_args!(
-            "  ** {front}1 byte still waits in the board and is not in flash **\n"
-        )),
-        _ => output.tell(format_args!(
-            "  ** {front}{n} bytes still wait in the board and are not in flash **\n"
-        )),
+    if 0 < n {
+        output.say(
+            "    do: write again what is lost, and finalize before a start, a reset, another board or a new write at 0\n",
+        );
     }
 }
 
 // Bytes that wait are not in flash.
 pub fn tell_held(output: &mut Output, n: usize) {
-    tell_still_waiting(output, "", n);
+    tell_few(
+        output,
+        n,
+        "  ** 1 byte still waits in the board and is not in flash **\n",
+        format_args!("  ** {n} bytes still wait in the board and are not in flash **\n"),
+    );
 }
 
 // The same where no call is to follow: the script's end, another flash.
@@ -42,9 +45,23 @@ pub fn tell_left_waiting(output: &mut Output, n: usize) {
     }
 }
 
+// The same after an OK, which must not be taken for bytes in flash.
+fn tell_held_ok(output: &mut Output, n: usize) {
+    tell_few(
+        output,
+        n,
+        "  ** OK, 1 byte still waits in the board and is not in flash **\n",
+        format_args!("  ** OK, {n} bytes still wait in the board and are not in flash **\n"),
+    );
+}
+
 // The same after a call, with what to do.
 pub fn tell_waiting_after(output: &mut Output, ok: bool, n: usize) {
-    tell_still_waiting(output, if ok { "OK, " } else { "" }, n);
+    if ok {
+        tell_held_ok(output, n);
+    } else {
+        tell_held(output, n);
+    }
     if 0 < n {
         output.say("    do: write on, and finalize at the end\n");
     }

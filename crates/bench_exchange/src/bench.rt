@@ -1,12 +1,10 @@
 // What the bench remembers between lines: the board's profile and state, the master's side, and what must not be missed.
-use bench_output::{Output, increment, say, tell};
-use bench_script::fields::Parsed;
 use profile::Profile;
 use rules::kinds::{Address, Bus};
 use state::State;
 use tally::Tally;
 
-// Which byte is to be damaged, from 1, and how many frames or replies pass before that; byte 0 for none.
+// Which byte is to be damaged, from 1, and how many frames or replies pass before that.
 #[derive(Clone, Copy)]
 pub struct Damage {
     pub byte: usize,
@@ -14,25 +12,22 @@ pub struct Damage {
 }
 
 impl Damage {
-    pub fn none() -> Self {
-        Damage { byte: 0, after: 0 }
-    }
-
-    // The byte of this one that is to be damaged; 0 for none.
-    pub fn due(self) -> usize {
-        if self.after == 0 { self.byte } else { 0 }
-    }
-
-    // This one has passed.
-    pub fn passed(self) -> Self {
+    // The byte that is to be damaged now.
+    pub fn due(self) -> Option<usize> {
         if self.after == 0 {
-            Damage::none()
+            Some(self.byte)
         } else {
-            Damage {
-                byte: self.byte,
-                after: self.after - 1,
-            }
+            None
         }
+    }
+
+    // What is left of it once a frame or a reply has passed.
+    pub fn passed(self) -> Option<Self> {
+        let after = self.after.checked_sub(1)?;
+        Some(Damage {
+            byte: self.byte,
+            after,
+        })
     }
 }
 
@@ -51,8 +46,8 @@ pub struct Bench {
     pub code: usize,
     pub asked: usize,
     // damage to a frame and to a reply on its way
-    pub frame: Damage,
-    pub reply: Damage,
+    pub frame: Option<Damage>,
+    pub reply: Option<Damage>,
     // lines read, and those among them that were not understood
     pub lines: usize,
     pub wrong: usize,
@@ -97,8 +92,8 @@ impl Bench {
             to: FIRST_ADDRESS,
             code: 0,
             asked: 0,
-            frame: Damage::none(),
-            reply: Damage::none(),
+            frame: None,
+            reply: None,
             lines: 0,
             wrong: 0,
             losses: 0,
@@ -109,137 +104,64 @@ impl Bench {
         }
     }
 
-    pub fn bus(self) -> Bus {
-        let p = self.profile;
-        p.bus
+    pub fn bus(&self) -> Bus {
+        self.profile.bus
     }
 
     // Where the board listens.
-    pub fn own(self) -> Address {
-        let s = self.state;
-        s.address
+    pub fn own(&self) -> Address {
+        self.state.address
+    }
+
+    // How many bytes of the board's upload wait.
+    pub fn waiting(&self) -> usize {
+        lost_bytes::waiting(self.state.upload)
     }
 
     // Another board, fresh, whose application is silent.
-    pub fn with_board(mut self, p: Profile) -> Self {
+    pub fn set_board(&mut self, p: Profile) {
         self.profile = p;
         self.state = State::fresh();
         self.tally = Tally::cleared();
-        self.answers = false;
-        self.answered = false;
+        self.set_application(false);
         self.to = FIRST_ADDRESS;
-        self
     }
 
     // Another application, which answers the version request or is silent.
-    pub fn with_application(mut self, answers: bool) -> Self {
+    pub fn set_application(&mut self, answers: bool) {
         self.answers = answers;
         self.answered = false;
-        self
-    }
-
-    pub fn with_tally(mut self, t: Tally) -> Self {
-        self.tally = t;
-        self
-    }
-
-    pub fn sending_to(mut self, to: usize) -> Self {
-        self.to = to;
-        self
-    }
-
-    // The board's last reply belongs to a command, and the board has another state after it.
-    pub fn exchanged(mut self, code: usize, asked: usize, s: State) -> Self {
-        self.code = code;
-        self.asked = asked;
-        self.state = s;
-        self
     }
 
     // After a frame to which the application replied, or not.
-    pub fn after_application(mut self, replied: bool) -> Self {
-        let s = self.state;
-        self.answered = s.running && (replied || self.answered);
-        self
+    pub(crate) fn note_application(&mut self, replied: bool) {
+        self.answered = self.state.running && (replied || self.answered);
     }
 
-    pub fn with_frame_damage(mut self, d: Damage) -> Self {
-        self.frame = d;
-        self
+    // A reply has passed.
+    pub(crate) fn pass_reply(&mut self) {
+        self.reply = self.reply.and_then(|d| d.passed());
     }
 
-    pub fn with_reply_damage(mut self, d: Damage) -> Self {
-        self.reply = d;
-        self
-    }
-
-    // After a reply of n bytes; 0 for none, and then whether that must not be missed.
-    pub fn after_reply(mut self, n: usize, missed: bool) -> Self {
-        if 0 < n {
-            let d = self.reply;
-            self.reply = d.passed();
-        }
-        if missed {
-            self.silences = increment(self.silences);
-        }
-        self
+    // A silence that must not be missed.
+    pub(crate) fn note_silence(&mut self) {
+        self.silences = self.silences.saturating_add(1);
     }
 
     // A call that lost so many bytes.
-    pub fn losing(mut self, n: usize) -> Self {
+    pub fn note_loss(&mut self, n: usize) {
         if 0 < n {
-            self.losses = increment(self.losses);
+            self.losses = self.losses.saturating_add(1);
         }
-        self
     }
 
     // An upload that failed.
-    pub fn failing(mut self) -> Self {
-        self.failures = increment(self.failures);
-        self
-    }
-
-    // The script is at its end.
-    pub fn at_end(mut self) -> Self {
-        self.ended = true;
-        self
+    pub fn note_failure(&mut self) {
+        self.failures = self.failures.saturating_add(1);
     }
 
     // One more line.
-    pub fn counted(mut self) -> Self {
-        self.lines = increment(self.lines);
-        self
-    }
-
-    // A line that was not understood: it says what was expected, and changes nothing else.
-    pub fn refused(mut self, output: &mut Output, expected: &[u8]) -> Self {
-        tell(
-            output,
-            b"  line % is not understood and changes nothing\n    expected: ",
-            self.lines,
-        );
-        say(output, expected);
-        say(output, b"\n");
-        self.wrong = increment(self.wrong);
-        self
-    }
-
-    // A line that cannot be done, since a file cannot be used.
-    fn undone(mut self, output: &mut Output) -> Self {
-        tell(
-            output,
-            b"  line % is not done and changes nothing\n",
-            self.lines,
-        );
-        self.wrong = increment(self.wrong);
-        self
-    }
-
-    // A line whose bytes could not be read.
-    pub fn refused_data(self, output: &mut Output, got: Parsed, expected: &[u8]) -> Self {
-        match got {
-            Parsed::Unusable => self.undone(output),
-            _ => self.refused(output, expected),
-        }
+    pub fn note_line(&mut self) {
+        self.lines = self.lines.saturating_add(1);
     }
 }

@@ -1,24 +1,36 @@
 // One frame to the board: sent, answered, and said in words with what changed.
-use crate::bench::Bench;
-use crate::replies::{Replier, Reply, arrived, damage, decoded, no_reply, read_reply, tell_bytes};
-use crate::{application, library};
+use crate::application;
+use crate::replies::{Replier, Reply, Silence, damage, decoded};
+use crate::session::Session;
+use alarms::erased_nothing;
 use bench_alarms::alarm;
 use bench_alarms::changes::tell_changes;
-use bench_memory::pages;
 use bench_output::Output;
 use bench_wording::meaning;
 use bench_wording::reply::{Asked, RequestResult};
+use lost_bytes::{lost, waiting};
 use numbers::{board_number, reply_length};
 use rules::kinds::{Address, Bus, Outcome, Verdict};
 use state::State;
-use tally::{Tally, counted};
+use tally::counted;
 
-// The bench after a request, what the master made of the reply, and the reply.
+// What came of a request: the reply, and what the master made of it.
 #[derive(Clone, Copy)]
 pub struct Exchange {
-    pub bench: Bench,
-    pub result: RequestResult,
-    pub reply: Reply,
+    pub reply: Result<Reply, Silence>,
+    pub result: Option<RequestResult>,
+}
+
+impl Exchange {
+    // The result where the status is OK.
+    pub fn ok(&self) -> Option<RequestResult> {
+        self.result.filter(|r| r.status == 0)
+    }
+
+    // Whether the status is OK.
+    pub fn is_ok(&self) -> bool {
+        self.ok().is_some()
+    }
 }
 
 // What the board did with a frame: its answer, and what must not be missed.
@@ -31,92 +43,6 @@ struct Called {
     out: [u8; 256],
     lost: usize,
     unworn: bool,
-    // the command that the last reply belongs to, and the length that it asked for
-    code: usize,
-    length: usize,
-}
-
-fn either(first: bool, a: usize, b: usize) -> usize {
-    if first { a } else { b }
-}
-
-// Gives a frame to the board as it arrives there.
-fn call_board(d: Bench, asked: Asked, frame: &[u8], memory: &mut [u8]) -> Called {
-    let verdict = library::classify(d.profile, d.own(), d.state.running, asked.address, frame);
-    let mut out = [0u8; 256];
-    let a = library::receive(d.profile, d.state, asked.address, frame, memory, &mut out);
-    let outcome = a.outcome;
-    let state = a.state;
-    let bus = asked.bus;
-    let number = board_number(outcome) as usize;
-    let after = state.upload;
-    let replied = 0 < reply_length(outcome);
-    Called {
-        by: Replier::Bootloader,
-        outcome,
-        verdict,
-        state,
-        out,
-        lost: library::lost(d.profile.offset, d.state.upload, after, memory),
-        unworn: library::erased_nothing(bus, frame, number, &out, after),
-        code: either(replied, asked.code, d.code),
-        length: either(replied, asked.length, d.asked),
-    }
-}
-
-// The same, with the application's reply if there is one.
-fn with_application(d: Bench, asked: Asked, frame: &[u8], c: Called) -> Called {
-    if !application::replies(d, asked.address, frame) {
-        return c;
-    }
-    let bus = asked.bus;
-    let verdict = c.verdict;
-    let state = c.state;
-    let to = library::destination(bus, asked.address, frame);
-    let mut out = [0u8; 256];
-    let n = application::write_reply(d, to, &mut out);
-    Called {
-        by: Replier::Application,
-        outcome: Outcome::Reply(n),
-        verdict,
-        state,
-        out,
-        lost: c.lost,
-        unworn: c.unworn,
-        code: asked.code,
-        length: asked.length,
-    }
-}
-
-// What board and application do with a frame.
-fn answer_frame(d: Bench, asked: Asked, frame: &[u8], memory: &mut [u8]) -> Called {
-    let c = call_board(d, asked, frame, memory);
-    with_application(d, asked, frame, c)
-}
-
-fn is_application(by: Replier) -> bool {
-    match by {
-        Replier::Bootloader => false,
-        Replier::Application => true,
-    }
-}
-
-// The tally after a frame. What the application replies is no answer of the board's, and is not counted.
-fn tallied(t: Tally, by: Replier, outcome: Outcome) -> Tally {
-    match by {
-        Replier::Bootloader => counted(t, outcome),
-        Replier::Application => t,
-    }
-}
-
-// The bench after a call.
-fn after_call(d: Bench, c: Called) -> Bench {
-    let by = c.by;
-    let outcome = c.outcome;
-    d.exchanged(c.code, c.length, c.state)
-        .after_application(is_application(by))
-        .with_tally(tallied(d.tally, by, outcome))
-        .losing(c.lost)
 }
 
 // Where the master reads the reply: at the board's own address, or where it sent to.
@@ -127,88 +53,151 @@ fn reply_address(own: Address, sent: u8) -> u8 {
     }
 }
 
-// The reply as it comes to the master: sent on RS485, read on I²C.
-fn fetched(output: &mut Output, d: Bench, asked: Asked, c: Called, memory: &[u8]) -> Reply {
-    let outcome = c.outcome;
-    let v = c.verdict;
-    let Outcome::Reply(n) = outcome else {
-        return no_reply(meaning::tell_answer(output, outcome, v, asked.code));
-    };
-    let bus = asked.bus;
-    let by = c.by;
-    let out = c.out;
-    match bus {
-        Bus::I2c => read_reply(
-            output,
-            d,
-            asked.verbose,
-            reply_address(d.own(), asked.address),
-            memory,
-        ),
-        Bus::Rs485 => arrived(output, d, by, out, n, asked.verbose, asked.address),
-    }
-}
-
 // What must not be missed after a call. Bytes that wait are said with each call that is said at all.
-fn tell_alarms(output: &mut Output, verbose: bool, c: Called, status: usize) {
-    let after = c.state.upload;
-    alarm::tell_lost(output, c.lost);
+fn tell_alarms(output: &mut Output, verbose: bool, called: &Called, ok: bool) {
+    let after = called.state.upload;
+    alarm::tell_lost(output, called.lost);
     if verbose {
-        alarm::tell_waiting_after(output, status == 0, library::waiting(after));
+        alarm::tell_waiting_after(output, ok, waiting(after));
     }
-    if c.unworn {
+    if called.unworn {
         alarm::tell_unworn(output, after.next);
     }
 }
 
-// What changed in flash and state.
-fn tell_since(output: &mut Output, verbose: bool, d: Bench, after: State, memory: &mut [u8]) {
-    let rewritten = pages::track(output, verbose, d.profile, after.upload.next, memory);
-    if verbose {
-        tell_changes(output, d.state, after, rewritten);
+impl Session {
+    // Gives a frame to the board as it arrives there.
+    fn call_board(&mut self, asked: Asked, frame: &[u8]) -> Called {
+        let bench = &self.bench;
+        let verdict = verdict::classify(
+            asked.bus,
+            bench.profile.longest,
+            bench.state.running,
+            bench.own(),
+            asked.address,
+            frame,
+        );
+        let before = bench.state.upload;
+        let mut out = [0u8; 256];
+        let answer = board::receive(
+            bench.profile,
+            bench.state,
+            asked.address,
+            frame,
+            self.memory.lent_flash(),
+            &mut out,
+        );
+        let after = answer.state.upload;
+        let number = board_number(answer.outcome) as usize;
+        Called {
+            by: Replier::Bootloader,
+            outcome: answer.outcome,
+            verdict,
+            state: answer.state,
+            out,
+            lost: lost(bench.profile.offset, before, after, self.memory.flash()),
+            unworn: erased_nothing(asked.bus, frame, number, &out, after),
+        }
     }
-}
 
-// Gives a frame to the board, and says what the board answered and what changed.
-fn deliver(
-    output: &mut Output,
-    d: Bench,
-    asked: Asked,
-    frame: &[u8],
-    memory: &mut [u8],
-) -> Exchange {
-    let c = answer_frame(d, asked, frame, memory);
-    let now = after_call(d, c);
-    let reply = fetched(output, now, asked, c, memory);
-    let result = decoded(output, asked, reply);
-    tell_alarms(output, asked.verbose, c, result.status);
-    tell_since(output, asked.verbose, d, c.state, memory);
-    let outcome = c.outcome;
-    Exchange {
-        bench: now.after_reply(reply_length(outcome), reply.missed),
-        result,
-        reply,
+    // What board and application do with a frame: the application's reply, if there is one, stands in place of the board's answer.
+    fn answer_frame(&mut self, asked: Asked, frame: &[u8]) -> Called {
+        let mut called = self.call_board(asked, frame);
+        if application::replies(&self.bench, asked.address, frame) {
+            let to = frame::request::destination(asked.bus, asked.address, frame);
+            called.out = [0u8; 256];
+            called.outcome = Outcome::Reply(application::write_reply(
+                asked.bus,
+                to,
+                &mut called.out,
+            ));
+            called.by = Replier::Application;
+        }
+        called
     }
-}
 
-// Sends a frame, with one byte damaged if the script asked for that, and says what happened.
-pub fn send(
-    output: &mut Output,
-    d: Bench,
-    asked: Asked,
-    frame: &mut [u8],
-    memory: &mut [u8],
-) -> Exchange {
-    if asked.verbose {
-        tell_bytes(output, b"  request to %: ", asked.address, frame);
+    // What the bench remembers of a call. What the application replies is no answer of the board's, and is not counted.
+    fn note_call(&mut self, asked: Asked, called: &Called) {
+        let bench = &mut self.bench;
+        if 0 < reply_length(called.outcome) {
+            bench.code = asked.code;
+            bench.asked = asked.length;
+        }
+        bench.state = called.state;
+        bench.note_application(called.by == Replier::Application);
+        if called.by == Replier::Bootloader {
+            bench.tally = counted(bench.tally, called.outcome);
+        }
+        bench.note_loss(called.lost);
     }
-    let hit = d.frame;
-    damage(output, frame, hit.due());
-    deliver(
-        output,
-        d.with_frame_damage(hit.passed()),
-        asked,
-        frame,
-        memory,
-    )
+
+    // The reply as it comes to the master: sent on RS485, read on I²C.
+    fn fetch(&mut self, asked: Asked, called: &Called) -> Result<Reply, Silence> {
+        let Outcome::Reply(n) = called.outcome else {
+            let output = &mut self.output;
+            let missed = meaning::tell_answer(output, called.outcome, called.verdict, asked.code);
+            return Err(if missed {
+                Silence::Missed
+            } else {
+                Silence::Expected
+            });
+        };
+        match asked.bus {
+            Bus::I2c => {
+                let at = reply_address(self.bench.own(), asked.address);
+                self.read_reply(asked.verbose, at)
+            }
+            Bus::Rs485 => self.arrive(called.by, called.out, n, asked.verbose, asked.address),
+        }
+    }
+
+    // What changed in flash and state.
+    fn tell_since(&mut self, verbose: bool, before: &State) {
+        let output = &mut self.output;
+        let after = &self.bench.state;
+        let rewritten = self
+            .memory
+            .track(output, verbose, self.bench.profile, after.upload.next);
+        if verbose {
+            tell_changes(output, before, after, rewritten);
+        }
+    }
+
+    // Gives a frame to the board, and says what the board answered and what changed.
+    fn deliver(&mut self, asked: Asked, frame: &[u8]) -> Exchange {
+        let before = self.bench.state;
+        let called = self.answer_frame(asked, frame);
+        self.note_call(asked, &called);
+        let reply = self.fetch(asked, &called);
+        let result = decoded(&mut self.output, asked, &reply);
+        let done = Exchange { reply, result };
+        tell_alarms(&mut self.output, asked.verbose, &called, done.is_ok());
+        self.tell_since(asked.verbose, &before);
+        self.note_reply(0 < reply_length(called.outcome), &done.reply);
+        done
+    }
+
+    // Sends a frame, with one byte damaged if the script asked for that, and says what happened.
+    pub fn send(&mut self, asked: Asked, frame: &mut [u8]) -> Exchange {
+        if asked.verbose {
+            let to = asked.address;
+            self.output.tell(format_args!("  request to {to}: "));
+            self.output.say_bytes(frame);
+            self.output.say("\n");
+        }
+        let hit = self.bench.frame;
+        damage(&mut self.output, frame, hit);
+        self.bench.frame = hit.and_then(|d| d.passed());
+        self.deliver(asked, frame)
+    }
+
+    // The last reply, read once more on I²C.
+    pub fn read_again(&mut self, at: usize) {
+        let asked = self.command(self.bench.code, self.bench.asked, true);
+        let reply = self.read_reply(true, (at % 256) as u8);
+        let result = decoded(&mut self.output, asked, &reply);
+        let done = Exchange { reply, result };
+        alarm::tell_waiting_after(&mut self.output, done.is_ok(), self.bench.waiting());
+        self.note_reply(done.reply.is_ok(), &done.reply);
+    }
 }

@@ -4,6 +4,6 @@
 mod application;
 pub mod bench;
 pub mod frames;
-mod library;
 pub mod replies;
 pub mod requests;
+pub mod session;

@@ -1,63 +1,52 @@
 // A reply on its way to the master: sent or read, perhaps damaged, and decoded.
-use crate::bench::Bench;
-use crate::{application, library};
-use bench_memory::memory::part;
-use bench_output::{Output, as_usize, say, say_byte, say_bytes, tell};
+use crate::application;
+use crate::bench::Damage;
+use crate::session::Session;
+use bench_output::Output;
 use bench_wording::meaning;
-use bench_wording::reply::{Asked, RequestResult, decode_reply, no_result};
+use bench_wording::reply::{Asked, RequestResult, decode_reply};
 use numbers::board_number;
 use rules::kinds::{Bus, Outcome};
 
-// What came to the master: the first `len` bytes; or a silence, and whether that must not be missed.
+// What came to the master: the first `len` bytes.
 #[derive(Clone, Copy)]
 pub struct Reply {
-    pub len: usize,
-    pub bytes: [u8; 256],
-    pub missed: bool,
+    len: usize,
+    bytes: [u8; 256],
 }
 
-pub fn no_reply(missed: bool) -> Reply {
-    Reply {
-        len: 0,
-        bytes: [0u8; 256],
-        missed,
+impl Reply {
+    pub fn as_slice(&self) -> &[u8] {
+        self.bytes.get(..self.len).unwrap_or(&[])
     }
 }
 
-// The byte with every bit inverted.
-fn inverted(b: u8) -> u8 {
-    255 - b
+// Why no reply came to the master.
+#[derive(Clone, Copy, PartialEq, Eq)]
+pub enum Silence {
+    // none was to come
+    Expected,
+    // it must not be missed
+    Missed,
 }
 
-// Damages a byte, counted from 1; 0 for none.
-pub(crate) fn damage(output: &mut Output, s: &mut [u8], which: usize) {
-    if which < 1 {
+// Damages a byte, counted from 1.
+pub(crate) fn damage(output: &mut Output, s: &mut [u8], hit: Option<Damage>) {
+    let Some(n) = hit.and_then(|d| d.due()) else {
         return;
-    }
-    if s.len() < which {
-        tell(output, b"  there is no byte % to damage\n", which);
+    };
+    let Some(byte) = s.get_mut(n.saturating_sub(1)) else {
+        output.tell(format_args!("  there is no byte {n} to damage\n"));
         return;
-    }
-    let at = which - 1;
-    let old = s[at];
-    let new = inverted(old);
-    s[at] = new;
-    tell(output, b"  byte % damaged: ", which);
-    say_byte(output, old);
-    say(output, b" -> ");
-    say_byte(output, new);
-    say(output, b"\n");
-}
-
-// Bytes behind a text with an address in it.
-pub(crate) fn tell_bytes(output: &mut Output, text: &[u8], address: u8, bytes: &[u8]) {
-    tell(output, text, as_usize(address));
-    say_bytes(output, bytes);
-    say(output, b"\n");
+    };
+    let old = *byte;
+    let new = !old;
+    *byte = new;
+    output.tell(format_args!("  byte {n} damaged: {old:02x} -> {new:02x}\n"));
 }
 
 // Who replies.
-#[derive(Clone, Copy)]
+#[derive(Clone, Copy, PartialEq, Eq)]
 pub(crate) enum Replier {
     Bootloader,
     Application,
@@ -65,8 +54,8 @@ pub(crate) enum Replier {
 
 fn tell_replier(output: &mut Output, by: Replier) {
     match by {
-        Replier::Bootloader => say(output, b"  number 0, reply made"),
-        Replier::Application => say(output, b"  the application replies"),
+        Replier::Bootloader => output.say("  number 0, reply made"),
+        Replier::Application => output.say("  the application replies"),
     }
 }
 
@@ -74,70 +63,87 @@ fn tell_replier(output: &mut Output, by: Replier) {
 fn tell_reply(output: &mut Output, bus: Bus, by: Replier, at: u8, reply: &[u8]) {
     tell_replier(output, by);
     match bus {
-        Bus::I2c => tell_bytes(output, b"; the master reads it at %: ", at, reply),
-        Bus::Rs485 => tell_bytes(output, b": ", at, reply),
+        Bus::I2c => output.tell(format_args!("; the master reads it at {at}: ")),
+        Bus::Rs485 => output.say(": "),
     }
-}
-
-// A reply of n bytes as it comes to the master.
-pub(crate) fn arrived(
-    output: &mut Output,
-    d: Bench,
-    by: Replier,
-    mut out: [u8; 256],
-    n: usize,
-    verbose: bool,
-    at: u8,
-) -> Reply {
-    let bus = d.bus();
-    if 256 < n {
-        return no_reply(false);
-    }
-    if verbose {
-        tell_reply(output, bus, by, at, &out[0..n]);
-    }
-    damage(output, &mut out[0..n], d.reply.due());
-    Reply {
-        len: n,
-        bytes: out,
-        missed: false,
-    }
-}
-
-// The master's I²C read of the application's reply.
-fn read_application(output: &mut Output, d: Bench, verbose: bool, at: u8) -> Reply {
-    let mut out = [0u8; 256];
-    let n = application::write_reply(d, at, &mut out);
-    arrived(output, d, Replier::Application, out, n, verbose, at)
-}
-
-// The master's I²C read at an address.
-pub fn read_reply(output: &mut Output, d: Bench, verbose: bool, at: u8, memory: &[u8]) -> Reply {
-    if application::is_read(d, at) {
-        return read_application(output, d, verbose, at);
-    }
-    let mut out = [0u8; 256];
-    let a = library::read(d.profile, d.state, at, memory, &mut out);
-    let outcome = a.outcome;
-    match outcome {
-        Outcome::Reply(n) => arrived(output, d, Replier::Bootloader, out, n, verbose, at),
-        Outcome::Nothing => {
-            meaning::tell_no_read(output);
-            no_reply(true)
-        }
-        _ => {
-            meaning::tell_number(output, board_number(outcome) as usize);
-            no_reply(true)
-        }
-    }
+    output.say_bytes(reply);
+    output.say("\n");
 }
 
 // What the master makes of a reply: no result where none came.
-pub fn decoded(output: &mut Output, asked: Asked, r: Reply) -> RequestResult {
-    let n = r.len;
-    let bytes = r.bytes;
-    if n == 0 {
-        return no_result();
+pub(crate) fn decoded(
+    output: &mut Output,
+    asked: Asked,
+    reply: &Result<Reply, Silence>,
+) -> Option<RequestResult> {
+    match reply {
+        Ok(bytes) => decode_reply(output, asked, bytes.as_slice()),
+        Err(_) => None,
     }
-    decode_reply(output, asked, part(&bytes, 0, n))
+}
+
+impl Session {
+    // A reply of n bytes as it comes to the master.
+    pub(crate) fn arrive(
+        &mut self,
+        by: Replier,
+        mut bytes: [u8; 256],
+        n: usize,
+        verbose: bool,
+        at: u8,
+    ) -> Result<Reply, Silence> {
+        if bytes.len() < n {
+            return Err(Silence::Expected);
+        }
+        let reply = &mut bytes[..n];
+        if verbose {
+            tell_reply(&mut self.output, self.bench.bus(), by, at, reply);
+        }
+        damage(&mut self.output, reply, self.bench.reply);
+        Ok(Reply { len: n, bytes })
+    }
+
+    // The master's I²C read of the application's reply.
+    fn read_application(&mut self, verbose: bool, at: u8) -> Result<Reply, Silence> {
+        let mut out = [0u8; 256];
+        let n = application::write_reply(self.bench.bus(), at, &mut out);
+        self.arrive(Replier::Application, out, n, verbose, at)
+    }
+
+    // The master's I²C read of the board's last reply.
+    fn read_bootloader(&mut self, verbose: bool, at: u8) -> Result<Reply, Silence> {
+        let mut out = [0u8; 256];
+        let answer = readout::read(
+            self.bench.profile,
+            self.bench.state,
+            at,
+            self.memory.flash(),
+            &mut out,
+        );
+        match answer.outcome {
+            Outcome::Reply(n) => return self.arrive(Replier::Bootloader, out, n, verbose, at),
+            Outcome::Nothing => meaning::tell_no_read(&mut self.output),
+            other => meaning::tell_number(&mut self.output, board_number(other)),
+        }
+        Err(Silence::Missed)
+    }
+
+    // The master's I²C read at an address.
+    pub(crate) fn read_reply(&mut self, verbose: bool, at: u8) -> Result<Reply, Silence> {
+        if application::is_read(&self.bench, at) {
+            self.read_application(verbose, at)
+        } else {
+            self.read_bootloader(verbose, at)
+        }
+    }
+
+    // A reply has passed, or a silence that must not be missed has come.
+    pub(crate) fn note_reply(&mut self, passed: bool, reply: &Result<Reply, Silence>) {
+        if passed {
+            self.bench.pass_reply();
+        }
+        if matches!(reply, Err(Silence::Missed)) {
+            self.bench.note_silence();
+        }
+    }
 }

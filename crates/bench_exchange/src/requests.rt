@@ -1,127 +1,116 @@
 // Requests that the master makes and sends.
-use crate::bench::Bench;
-use crate::frames::{Exchange, send};
-use crate::library;
-use crate::replies::{Reply, no_reply};
-use bench_memory::memory;
-use bench_memory::memory::{FLASH, IMAGE};
-use bench_output::{Output, min};
+use crate::frames::Exchange;
+use crate::replies::Silence;
+use crate::session::Session;
 use bench_wording::meaning;
-use bench_wording::reply::{Asked, RequestResult, no_result, part};
-use rules::requests::{Encoded, Request};
+use bench_wording::reply::{Asked, part};
+use byte_slices::matches;
+use encoder::encode::encode;
+use rules::requests::{EncodeError, Request};
+use std::ops::Range;
 use upload_ends::UploadEnd;
 
-fn unsent(d: Bench) -> Exchange {
+// Nothing was sent.
+fn unsent() -> Exchange {
     Exchange {
-        bench: d,
-        result: no_result(),
-        reply: no_reply(false),
+        reply: Err(Silence::Expected),
+        result: None,
     }
 }
 
-// Makes a request, with the bytes of the image from one place to another as data.
-fn encode(
-    d: Bench,
-    r: Request,
-    from: usize,
-    end: usize,
-    memory: &[u8],
-    frame: &mut [u8],
-) -> Encoded {
-    let bus = d.bus();
-    let last = min(end, FLASH);
-    let first = min(from, last);
-    library::encode(
-        bus,
-        d.profile.longest,
-        r,
-        d.to,
-        memory::part(memory, IMAGE + first, last - first),
-        frame,
-    )
-}
+impl Session {
+    // A command to where the master sends.
+    pub fn command(&self, code: usize, length: usize, verbose: bool) -> Asked {
+        Asked {
+            bus: self.bench.bus(),
+            code,
+            length,
+            address: (self.bench.to % 256) as u8,
+            verbose,
+        }
+    }
 
-// How many bytes lie between two places.
-fn data_length(from: usize, end: usize) -> usize {
-    if end < from { 0 } else { end - from }
-}
+    // A general call.
+    pub fn general(&self) -> Asked {
+        Asked {
+            bus: self.bench.bus(),
+            code: 0x46,
+            length: 0,
+            address: 0,
+            verbose: true,
+        }
+    }
 
-// A request that the master makes and sends. A write's data are the bytes of the image from one place to another.
-pub fn request(
-    output: &mut Output,
-    d: Bench,
-    r: Request,
-    asked: Asked,
-    from: usize,
-    end: usize,
-    memory: &mut [u8],
-) -> Exchange {
-    let mut frame = [0u8; 512];
-    let e = encode(d, r, from, end, memory, &mut frame);
-    let Encoded::Made(n) = e else {
-        let bus = d.bus();
+    // What a request asks.
+    fn asked_by(&self, r: Request, verbose: bool) -> Asked {
+        match r {
+            Request::Plain(code) => self.command(code, 0, verbose),
+            Request::SetAddress { .. } => self.command(0x01, 0, verbose),
+            Request::Write { .. } => self.command(0x06, 0, verbose),
+            Request::Read { length, .. } => self.command(0x08, length, verbose),
+            Request::ResetAddress | Request::Reset => self.general(),
+        }
+    }
+
+    // A request that the master did not make, with n data bytes.
+    fn tell_unmade(&mut self, e: EncodeError, r: Request, n: usize) {
+        let bench = &self.bench;
         meaning::tell_unmade(
-            output,
+            &mut self.output,
             e,
-            bus,
-            d.profile.longest,
+            bench.bus(),
+            bench.profile.longest,
             r,
-            d.to,
-            data_length(from, end),
+            bench.to,
+            n,
         );
-        return unsent(d);
-    };
-    if 512 < n {
-        return unsent(d);
     }
-    send(output, d, asked, &mut frame[0..n], memory)
-}
 
-// A command to where the master sends.
-pub fn command(d: Bench, code: usize, length: usize, verbose: bool) -> Asked {
-    Asked {
-        bus: d.bus(),
-        code,
-        length,
-        address: (d.to % 256) as u8,
-        verbose,
+    // A request that the master makes and sends; of one that is not verbose only what must not be missed is said. A write's data are
+    // this part of the image.
+    pub fn request(&mut self, r: Request, verbose: bool, image: Range<usize>) -> Exchange {
+        let mut frame = [0u8; 512];
+        let bench = &self.bench;
+        let bytes = self.memory.image(image.start, image.end);
+        match encode(
+            bench.bus(),
+            bench.profile.longest,
+            r,
+            bench.to,
+            bytes,
+            &mut frame,
+        ) {
+            Ok(n) if n <= frame.len() => {
+                let asked = self.asked_by(r, verbose);
+                self.send(asked, &mut frame[..n])
+            }
+            Ok(_) => unsent(),
+            Err(e) => {
+                self.tell_unmade(e, r, image.end.saturating_sub(image.start));
+                unsent()
+            }
+        }
     }
-}
 
-// A general call.
-pub fn general(d: Bench) -> Asked {
-    Asked {
-        bus: d.bus(),
-        code: 0x46,
-        length: 0,
-        address: 0,
-        verbose: true,
+    // How an upload of the first n bytes of the image ended.
+    pub fn upload_end(&self, n: usize) -> UploadEnd {
+        upload_ends::upload_end(
+            self.bench.profile.offset,
+            self.bench.profile.size,
+            self.memory.image(0, n),
+            self.memory.earlier_flash(),
+            self.memory.flash(),
+        )
     }
-}
 
-// How many bytes of the board's upload wait.
-pub fn waiting(d: Bench) -> usize {
-    let u = d.state.upload;
-    library::waiting(u)
-}
-
-// How many waiting bytes are lost if the board is exchanged for a fresh one.
-pub fn lost_with_board(d: Bench, fresh: Bench, memory: &[u8]) -> usize {
-    library::lost(d.profile.offset, d.state.upload, fresh.state.upload, memory)
-}
-
-// How an upload of the first n bytes of the image ended.
-pub fn upload_end(d: Bench, n: usize, memory: &[u8]) -> UploadEnd {
-    library::upload_end(d.profile, n, memory)
-}
-
-// Whether a read, by its reply and result, gave the bytes of the image from one place to another.
-pub fn is_image(reply: Reply, r: RequestResult, from: usize, end: usize, memory: &[u8]) -> bool {
-    let last = min(end, FLASH);
-    let first = min(from, last);
-    let bytes = reply.bytes;
-    byte_slices::matches(
-        part(&bytes, r.start, r.len),
-        memory::part(memory, IMAGE + first, last - first),
-    )
+    // Whether a read gave the bytes of the image from one place to another.
+    pub fn is_image(&self, done: &Exchange, from: usize, end: usize) -> bool {
+        match (&done.reply, &done.result) {
+            (Ok(reply), Some(r)) => matches(
+                part(reply.as_slice(), r.start, r.len),
+                self.memory.image(from, end),
+            ),
+            _ => false,
+        }
+    }
 }

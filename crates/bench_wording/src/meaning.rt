@@ -8,6 +8,10 @@ use rules::kinds::{Bus, Outcome, Reason, Verdict};
 use rules::requests::{Decoded, EncodeError, Request};
 use std::fmt::Display;
 
+const LARGEST_FLASH_ADDRESS: usize = 65535;
+
+const LARGEST_TYPE: usize = 255;
+
 // What a number means, and what to do about it.
 fn number_meaning(n: u32) -> &'static str {
     match n {
@@ -126,11 +130,12 @@ fn tell_choice(output: &mut Output, bus: Bus) {
 
 // Why the board refused a set address, and what to do.
 fn tell_address_refused(output: &mut Output, bus: Bus) {
-    let addresses = reserved_addresses(bus);
-    output.tell(format_args!(
-        "    wrong: not two argument bytes, or a reserved address: {addresses}    the board stays at its address\n"
-    ));
-    output.say("    do: send address and type; ");
+    output.say("    wrong: not two argument bytes, or a reserved address: ");
+    output.say(reserved_addresses(bus));
+    output.say(
+        "    the board stays at its address
+    do: send address and type; ",
+    );
     tell_choice(output, bus);
 }
 
@@ -297,19 +302,27 @@ pub fn tell_no_read(output: &mut Output) {
     );
 }
 
-// A limit that a request breaks: whether it does. What breaks it is said.
-fn is_over(output: &mut Output, n: usize, most: usize, broken: impl Display + Drop) -> bool {
-    if n <= most {
-        return false;
+// A limit that a request breaks: whether it does. Then the text is said.
+fn is_over(output: &mut Output, n: usize, most: usize, text: impl Display + Drop) -> bool {
+    let over = most < n;
+    if over {
+        output.tell(text);
     }
-    output.tell(format_args!("    wrong: {broken}\n"));
-    true
+    over
 }
 
-// A flash address that no board has.
+// A flash address that no board has: whether it is one.
 fn is_over_flash(output: &mut Output, address: usize) -> bool {
-    let broken = format_args!("flash address {address}: at most 65535");
-    is_over(output, address, 65535, broken)
+    let most = LARGEST_FLASH_ADDRESS;
+    let text = format_args!("    wrong: flash address {address}: at most {most}\n");
+    is_over(output, address, most, text)
+}
+
+// A hardware type that no board has: whether it is one.
+fn is_over_type(output: &mut Output, hardware: usize) -> bool {
+    let most = LARGEST_TYPE;
+    let text = format_args!("    wrong: type {hardware}: at most {most}\n");
+    is_over(output, hardware, most, text)
 }
 
 // A new address that is reserved: whether it is.
@@ -317,8 +330,8 @@ fn is_reserved(output: &mut Output, bus: Bus, a: usize) -> bool {
     if !reserved(bus, a) {
         return false;
     }
-    let addresses = reserved_addresses(bus);
-    output.tell(format_args!("    wrong: address {a} is reserved: {addresses}"));
+    output.tell(format_args!("    wrong: address {a} is reserved: "));
+    output.say(reserved_addresses(bus));
     if a == 0 {
         output.say("    a board at 0 would hear general calls only\n");
     }
@@ -355,44 +368,47 @@ pub fn longest_read(bus: Bus, longest: usize) -> usize {
     longest.saturating_sub(shortest_reply(bus))
 }
 
+// A new address that no board may have: whether it is one.
+fn is_over_address(output: &mut Output, bus: Bus, address: usize) -> bool {
+    let most = last_free_address(bus);
+    let text = format_args!("    wrong: address {address}: at most {most} here\n");
+    is_over(output, address, most, text)
+}
+
+// More data bytes than a write carries: whether they are.
+fn is_over_data(output: &mut Output, bus: Bus, longest: usize, n: usize) -> bool {
+    let most = longest_data(bus, longest);
+    let text = format_args!("    wrong: {n} data bytes: at most {most} here\n");
+    is_over(output, n, most, text)
+}
+
+// More bytes than a read gives: whether they are.
+fn is_over_length(output: &mut Output, bus: Bus, longest: usize, length: usize) -> bool {
+    let most = longest_read(bus, longest);
+    let text = format_args!("    wrong: length {length}: at most {most} here\n");
+    is_over(output, length, most, text)
+}
+
+// A board's address that the bus does not have: whether it is one.
+fn is_over_to(output: &mut Output, bus: Bus, to: usize) -> bool {
+    let most = last_address(bus);
+    let text = format_args!("    wrong: to {to}: at most {most} here\n");
+    is_over(output, to, most, text)
+}
+
 // Which argument of a request is out of its range.
 fn tell_argument(output: &mut Output, bus: Bus, longest: usize, r: Request, n: usize) -> bool {
     match r {
         Request::SetAddress { address, hardware } => {
-            let most = last_free_address(bus);
             is_reserved(output, bus, address)
-                || is_over(
-                    output,
-                    address,
-                    most,
-                    format_args!("address {address}: at most {most} here"),
-                )
-                || is_over(
-                    output,
-                    hardware,
-                    255,
-                    format_args!("type {hardware}: at most 255"),
-                )
+                || is_over_address(output, bus, address)
+                || is_over_type(output, hardware)
         }
         Request::Write { address } => {
-            let most = longest_data(bus, longest);
-            is_over_flash(output, address)
-                || is_over(
-                    output,
-                    n,
-                    most,
-                    format_args!("{n} data bytes: at most {most} here"),
-                )
+            is_over_flash(output, address) || is_over_data(output, bus, longest, n)
         }
         Request::Read { address, length } => {
-            let most = longest_read(bus, longest);
-            is_over_flash(output, address)
-                || is_over(
-                    output,
-                    length,
-                    most,
-                    format_args!("length {length}: at most {most} here"),
-                )
+            is_over_flash(output, address) || is_over_length(output, bus, longest, length)
         }
         _ => false,
     }
@@ -409,15 +425,9 @@ pub fn tell_unmade(
     n: usize,
 ) {
     tell_number(output, encoded_number(Err(e)));
-    let most = last_address(bus);
     if to == 0 {
         output.say("    wrong: address 0 is all boards: a command goes to one of them\n");
-    } else if !is_over(
-        output,
-        to,
-        most,
-        format_args!("to {to}: at most {most} here"),
-    ) {
+    } else if !is_over_to(output, bus, to) {
         tell_argument(output, bus, longest, r, n);
     }
     output.say("  nothing was sent\n");
@@ -427,10 +437,8 @@ pub fn tell_unmade(
 fn again(bus: Bus, code: usize) -> &'static str {
     match (bus, code) {
         (Bus::I2c, 0x01) => {
-            concat!(
-                "    do: read once more at the new address, with i2c-read and that address: ",
-                "the board has kept the reply there, a refusal at the old one\n",
-            )
+            "    do: read once more at the new address, with i2c-read and that address: \
+             the board has kept the reply there, a refusal at the old one\n"
         }
         (Bus::I2c, _) => { "    do: read once more, with i2c-read: the board has kept the reply\n" }
         (Bus::Rs485, 0x01) => {
