@@ -1,4 +1,5 @@
 -- The reset for a running application, case by case: by the number that the version rule gives, under an M in range.
+use Rattle.std.specs.Prelude.{Result}
 use mathlib.Core.Path.{◌≡◌}
 use mathlib.Core.Bool.{true}
 use mathlib.Core.List.{[]}
@@ -6,6 +7,7 @@ use Prim.Native.Nat.{ℕ}
 use Rattle.rules.specs.declared.kinds.Bus.{Bus}
 use Rattle.rules.specs.declared.requests.Request.TheVariants.{Reset}
 use Rattle.rules.specs.declared.requests.Version.{Version}
+use Rattle.rules.specs.declared.requests.VersionError.{VersionError}
 use Rattle.rules.specs.Profile.{frame_in_range}
 use Rattle.rules.specs.Master.{request_bytes, argument_wrong, encoded, unmade, Ruled, application_running, ruled_as, version_rule}
 use Rattle.rules.specs.Master.{running_reset}
@@ -17,7 +19,7 @@ unfolding request_bytes argument_wrong encoded reset_into
 encoded_reset bus M n e = rw e
 
 -- the version rule's number, by its answer
-pub ruled-number : {v w : Version} {r : Ruled} → ruled_as v ≡ r → v ≡ w → r.number ≡ (ruled_as w).number
+pub ruled-number : {v w : Result Version VersionError} {r : Ruled} → ruled_as v ≡ r → v ≡ w → r.number ≡ (ruled_as w).number
 ruled-number e q = rw (← e, q)
 
 module _ (bus : Bus) (M major minor n : ℕ) (in_range_holds : frame_in_range M ≡ true) where

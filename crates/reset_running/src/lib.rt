@@ -9,30 +9,36 @@ ghost use Rattle.reset_running.specs.Resets.{reset_into};
 
 use general_calls::{General, general_length, write_general};
 use rules::kinds::Bus;
-use rules::requests::{RunningReset, Version};
+use rules::requests::{ResetError, VersionError};
 
 // The general-call reset, if the output has room for it.
-fn write_reset(bus: Bus, out: &mut [u8]) -> RunningReset
+fn write_reset(bus: Bus, out: &mut [u8]) -> Result<usize, ResetError>
     ensures { Encodes (reset_number result) (reset_length result) (reset_into bus (length out.old))
         out.old out.new }
 {
     if out.len() < general_length(bus) {
-        return RunningReset::OutputTooShort;
+        return Err(ResetError::OutputTooShort);
     }
-    RunningReset::Made(write_general(bus, General::Reset, out))
+    Ok(write_general(bus, General::Reset, out))
 }
 
 // What the master sends to a board that answered this version: a reset where an application runs, else nothing.
-pub fn reset_running(bus: Bus, longest: usize, major: u8, minor: u8, out: &mut [u8]) -> RunningReset
+pub fn reset_running(
+    bus: Bus,
+    longest: usize,
+    major: u8,
+    minor: u8,
+    out: &mut [u8],
+) -> Result<usize, ResetError>
     ensures { Encodes (reset_number result) (reset_length result) (running_reset bus longest major minor (length out.old))
         out.old out.new }
 {
     if !profile::frame_in_range(longest) {
-        return RunningReset::FrameOutOfRange;
+        return Err(ResetError::FrameOutOfRange);
     }
     match version_rule::version(major, minor) {
-        Version::Known { major: _, minor: _ } => RunningReset::VersionKnown,
-        Version::ApplicationRunning => write_reset(bus, out),
-        Version::Unknown => RunningReset::VersionUnknown,
+        Ok(_) => Err(ResetError::VersionKnown),
+        Err(VersionError::ApplicationRunning) => write_reset(bus, out),
+        Err(VersionError::Unknown) => Err(ResetError::VersionUnknown),
     }
 }

@@ -10,20 +10,20 @@ unfolding running_reset
 returns-then-not-frame_in_range c =
     encodes_unmade _ _ c.args.out.now (rw (← c.frame_in_range.ensures, c.if-not-frame_in_range.true))
 
-pub returns-in-Known : goal.returns-in-Known
-returns-in-Known c =
+pub returns-in-Ok : goal.returns-in-Ok
+returns-in-Ok c =
     let in_range_holds = sym c.frame_in_range.ensures ∙ c.if-not-frame_in_range.false in
     encodes_unmade _ _ c.args.out.now
-    (known c.args.bus _ _ _ _ in_range_holds (ruled-number c.version.ensures c.in-Known.is))
+    (known c.args.bus _ _ _ _ in_range_holds (ruled-number c.version.ensures c.in-Ok.is))
 
-pub returns-in-ApplicationRunning : goal.returns-in-ApplicationRunning
-returns-in-ApplicationRunning c =
+pub returns-in-Err-ApplicationRunning : goal.returns-in-Err-ApplicationRunning
+returns-in-Err-ApplicationRunning c =
     let in_range_holds = sym c.frame_in_range.ensures ∙ c.if-not-frame_in_range.false in
-    rw (running c.args.bus _ _ _ _ in_range_holds (ruled-number c.version.ensures c.in-ApplicationRunning.is))
+    rw (running c.args.bus _ _ _ _ in_range_holds (ruled-number c.version.ensures (rw c.in-Err-ApplicationRunning.field-0-is at c.in-Err-ApplicationRunning.is)))
     c.write_reset.ensures
 
-pub returns-in-Unknown : goal.returns-in-Unknown
-returns-in-Unknown c =
+pub returns-in-Err-Unknown : goal.returns-in-Err-Unknown
+returns-in-Err-Unknown c =
     let in_range_holds = sym c.frame_in_range.ensures ∙ c.if-not-frame_in_range.false in
     encodes_unmade _ _ c.args.out.now
-    (unknown c.args.bus _ _ _ _ in_range_holds (ruled-number c.version.ensures c.in-Unknown.is))
+    (unknown c.args.bus _ _ _ _ in_range_holds (ruled-number c.version.ensures (rw c.in-Err-Unknown.field-0-is at c.in-Err-Unknown.is)))
