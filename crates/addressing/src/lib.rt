@@ -1,5 +1,5 @@
 // Document 01, "Frames and check sums": whether a destination is this board. W1: which addresses no board takes.
-#![tactic(auto)]
+#![tactic(auto, unfolding(rules::specs::Frames::addressed))]
 
 ghost use Rattle.std.specs.Prelude.{◌≡◌};
 ghost use Rattle.rules.specs.Frames.{address_fits, answers_to, addressed};

@@ -8,6 +8,7 @@ ghost use Rattle.rules.specs.Commands.{tabled, served, length_allowed};
 use byte_slices::wide;
 
 // Codes 0x00 to 0x0e, a row each: served, shortest and longest.
+// Columns and no Option: the clause of `row`, by column, is that of `tabled`.
 pub const ARGUMENTS: [[u8; 3]; 15] = [
     [1, 0, 0],
     [1, 2, 2],

@@ -24,11 +24,11 @@ pub fn finalize(p: Profile, u: Counts, waiting: &[u8], flash: &mut [u8]) -> Coun
     if held == 0 {
         return u;
     }
-    let next = u.next;
-    let count = u.count;
-    let offset = p.offset;
-    let mut r = u;
-    r.count = commit_counted(flash, offset + (next - held), &waiting[..held], &[], count);
-    r.held = 0;
-    r
+    let at = p.offset + (u.next - held);
+    let count = commit_counted(flash, at, &waiting[..held], &[], u.count);
+    Counts {
+        held: 0,
+        count,
+        ..u
+    }
 }

@@ -1,5 +1,5 @@
 // A frame that is neither general call, by length, check sum and address: what it is to a board, by name.
-#![tactic(auto)]
+#![tactic(auto, unfolding(rules::specs::Frames::framing))]
 
 ghost use Rattle.std.specs.Prelude.{◌≡◌};
 ghost use Rattle.rules.specs.Frames.{framing};

@@ -24,6 +24,7 @@ struct Paged {
 }
 
 // Commits each page that the accepted bytes end, the waiting bytes with the first.
+// A `while`: the first page lacks fewer bytes than the others, and no chain (`byte_slices::matches`).
 fn commit_pages(p: Profile, u: Counts, bytes: &[u8], waiting: &[u8], flash: &mut [u8]) -> Paged
     requires ready { Ready p (upload_with u waiting.now) (length flash.old) }
     requires bytes_bound { u.next + length bytes.now ≤ p.size }

@@ -1,5 +1,5 @@
 // Document 01, "Frames and check sums": what a received frame is to a board, by name, before the answer has its number.
-#![tactic(auto)]
+#![tactic(auto, unfolding(rules::specs::Frames::verdict, rules::specs::Frames::framing))]
 
 ghost use Rattle.std.specs.Prelude.{◌≡◌};
 ghost use Rattle.rules.specs.Frames.{verdict};
