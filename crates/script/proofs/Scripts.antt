@@ -1,4 +1,4 @@
--- Laws of scripts: their calls from the first record on, and the record at a place.
+-- Laws of scripts: their calls from the first record on.
 use mathlib.Core.Path.{◌≡◌, refl, ap, ◌∙◌}
 use mathlib.Core.Bool.{true, false}
 use mathlib.Core.List.{List, [], ◌∷◌}
@@ -41,9 +41,3 @@ module _ (n : ℕ) (bytes : List ℕ) where
   pub calls_in_end : whole bytes ≡ false → calls_in n bytes ≡ []
   unfolding calls_of_records
   calls_in_end e = calls_of_records_enough n (length bytes) (suc (length bytes)) bytes (omega arith) (omega arith) ∙ rw e
-
--- the record at a place of a script
-pub input-at : (script : List ℕ) (at : ℕ)
-    → input_by (get_or script at 0) (get_or script (at + 1) 0) (take (frame_length (drop at script)) (drop (at + head) script))
-    ≡ input (drop at script)
-input-at script at = simp (get_or-drop, drop-drop, add-zero)
