@@ -3,15 +3,13 @@ use mathlib.Core.Path.{◌≡◌, refl, ap, ◌∙◌}
 use mathlib.Core.Bool.{true, false}
 use mathlib.Core.List.{List, [], ◌∷◌}
 use Prim.Native.Nat.{ℕ, zero, suc, ◌+◌, ◌-◌, ◌≤◌}
-use native.Mathlib.Nat.{add-zero}
 use native.Mathlib.Omega.{arith}
-use lib.ListN.{length, take, drop, get_or, length-drop}
-use lib.Seq.{get_or-drop, drop-drop}
+use lib.ListN.{length, drop, length-drop}
 use borrow.Author.Tests.{lt-leb}
 use Rattle.laws.proofs.TestLaws.{by_test}
 use Rattle.ledger.specs.Calls.{Call}
 use Rattle.refinement.specs.Happened.{call_with}
-use Rattle.script.specs.Script.{head, input_by, frame_length, whole, input, calls_of_records, calls_in}
+use Rattle.script.specs.Script.{head, frame_length, whole, input, calls_of_records, calls_in}
 
 -- any bound on the number of records will do that is at least the number of bytes
 calls_of_records_enough : (n m k : ℕ) (bytes : List ℕ) → length bytes ≤ m → length bytes ≤ k

@@ -9,10 +9,10 @@ use byte_slices::number_at;
 // The bytes of a record before its frame: a kind, an address, a length in two bytes.
 pub const HEAD: usize = 4;
 
-// The length of a record's frame.
-pub fn frame_length(record: &[u8]) -> usize
-    requires { head ≤ length record.now }
-    ensures { result ≡ frame_length record.now }
+// The length of the frame of the record that the bytes begin with.
+pub fn frame_length(bytes: &[u8]) -> usize
+    requires { head ≤ length bytes.now }
+    ensures { result ≡ frame_length bytes.now }
 {
-    number_at(record, 2)
+    number_at(bytes, 2)
 }
