@@ -23,7 +23,7 @@ pub record Happened : Type 0 where
   pub input : CallInput
   pub before : List ℕ
   pub after : List ℕ
-  pub answer : Answer
+  pub answer : Answer State
   pub flash : List ℕ
 
 -- what the rules say of it, on the state s and the flash d, with a reply buffer of n bytes

@@ -14,19 +14,17 @@ pub fn run(p: Profile, script: &[u8], flash: &mut [u8], out: &mut [u8]) -> State
     ensures { Left p script.now flash.old out.old result flash.new out.new }
 {
     let mut s = State::fresh();
-    let mut at = 0;
-    while script.len() - at >= HEAD {
-        let n = frame_length(script, at);
-        let start = at + HEAD;
-        if script.len() - start < n {
+    let mut rest = script;
+    while rest.len() >= HEAD {
+        let n = frame_length(rest);
+        let (_, behind) = rest.split_at(HEAD);
+        if behind.len() < n {
             return s;
         }
-        let end = start + n;
-        let kind = script[at];
-        let second = at + 1;
-        let answer = call(p, s, kind, script[second], &script[start..end], flash, out);
+        let (frame, next) = behind.split_at(n);
+        let answer = call(p, s, rest[0], rest[1], frame, flash, out);
         s = answer.state;
-        at = end;
+        rest = next;
     }
     s
 }

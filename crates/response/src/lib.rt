@@ -30,7 +30,7 @@ impl Status {
     }
 }
 
-// A status code with so many results.
+// A status with so many results. The status is its code, a number, as `counted` of specs/ takes it from the rules' response.
 #[derive(Clone, Copy)]
 pub struct Response {
     pub status: u8,

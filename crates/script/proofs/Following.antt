@@ -1,13 +1,10 @@
--- Calls of the code that follow a script up to a place, and what is left at its end: by the contracts what the rules say, and by the
+-- Calls of the code that follow a script up to its last bytes, and what is left at its end: by the contracts what the rules say, and by the
 -- demands what the ledger says.
 use mathlib.Core.Path.{◌≡◌, refl, sym, ap, ◌∙◌}
 use mathlib.Core.Bool.{true, false}
 use mathlib.Core.List.{List, [], ◌∷◌}
-use Prim.Native.Nat.{ℕ, ◌+◌, ◌≤◌}
-use native.Mathlib.Omega.{arith}
-use lib.ListN.{length, drop, length-drop}
-use lib.Seq.{drop-drop}
-use borrow.Author.Tests.{leb-true}
+use Prim.Native.Nat.{ℕ, ◌+◌}
+use lib.ListN.{length, drop}
 use Rattle.rules.specs.Profile as rules
 use Rattle.rules.specs.State as states
 use Rattle.ledger.specs.Ledger.{Ledger, opened}
@@ -78,18 +75,16 @@ followed_left {p} {script} {d} {b} f =
           ap (λ (x : State). x.upload.count) (sym f.state_left_holds) ∙ after_count (profile_of p) zeroed (opened d) f.happened refl right;
     }
 
--- calls followed a script up to a place: whatever calls then follow its rest, the whole is followed
-pub record Reached (p : Profile) (script d b : List ℕ) (at : ℕ) (s : State) (e o : List ℕ) : Type 0 where
-  pub at_most : at ≤ length script
+-- calls followed a script up to its last bytes: whatever calls then follow these, the whole is followed
+pub record Reached (p : Profile) (script d b bytes : List ℕ) (s : State) (e o : List ℕ) : Type 0 where
   pub flash_length : length e ≡ length d
   pub buffer_length : length o ≡ length b
-  pub leads : (rest : List Happened) → calls_of rest ≡ calls_in (length b) (drop at script) → Ran p s e rest → Lent o rest
+  pub leads : (rest : List Happened) → calls_of rest ≡ calls_in (length b) bytes → Ran p s e rest → Lent o rest
       → Followed p script d b (state_after s rest) (flash_after e rest) (buffer_after o rest)
 
 module _ (p : Profile) (script d b : List ℕ) where
-  pub reached_none : (s : State) → s ≡ zeroed → Reached p script d b 0 s d b
+  pub reached_none : (s : State) → s ≡ zeroed → Reached p script d b script s d b
   reached_none s all = record {
-    at_most = omega arith;
     flash_length = refl;
     buffer_length = refl;
     leads = λ rest order ran lent.
@@ -104,22 +99,19 @@ module _ (p : Profile) (script d b : List ℕ) where
         };
   }
 
-  module _ {at : ℕ} {s : State} {e o : List ℕ} (before : Reached p script d b at s e o) where
-    pub reached_record : (h : Happened) (next : ℕ) → whole (drop at script) ≡ true → next ≡ at + (head + frame_length (drop at script))
-        → h.before ≡ o → length h.after ≡ length o → length h.flash ≡ length e → h.input ≡ input (drop at script) → Promised p s e h
+  module _ {bytes : List ℕ} {s : State} {e o : List ℕ} (before : Reached p script d b bytes s e o) where
+    pub reached_record : (h : Happened) (next : List ℕ) → whole bytes ≡ true → next ≡ drop (head + frame_length bytes) bytes
+        → h.before ≡ o → length h.after ≡ length o → length h.flash ≡ length e → h.input ≡ input bytes → Promised p s e h
         → Reached p script d b next h.answer.state h.flash h.after
     reached_record h next is place lent same same-flash for done =
-        let bytes : List ℕ = drop at script in
-        let fits = leb-true (head + frame_length bytes) (length bytes) is in
         record {
-          at_most = omega (arith, length-drop at script);
           flash_length = same-flash ∙ before.flash_length;
           buffer_length = same ∙ before.buffer_length;
           leads = λ rest order ran more.
               let first : call_of h ≡ call_with (input bytes) (length b) = rw (for, lent, before.buffer_length) in
-              before.leads (h ∷ rest) (cc (calls_in_record (length b) bytes is, drop-drop (head + frame_length bytes) at script))
+              before.leads (h ∷ rest) (cc (calls_in_record (length b) bytes is))
               (done, ran) (lent, more);
         }
 
-    pub reached_end : whole (drop at script) ≡ false → Left p script d b s e o
-    reached_end is = followed_left (before.leads [] (sym (calls_in_end (length b) (drop at script) is)) tt tt)
+    pub reached_end : whole bytes ≡ false → Left p script d b s e o
+    reached_end is = followed_left (before.leads [] (sym (calls_in_end (length b) bytes is)) tt tt)

@@ -1,17 +1,15 @@
--- Laws of scripts: their calls from the first record on, and the record at a place.
+-- Laws of scripts: their calls from the first record on.
 use mathlib.Core.Path.{◌≡◌, refl, ap, ◌∙◌}
 use mathlib.Core.Bool.{true, false}
 use mathlib.Core.List.{List, [], ◌∷◌}
 use Prim.Native.Nat.{ℕ, zero, suc, ◌+◌, ◌-◌, ◌≤◌}
-use native.Mathlib.Nat.{add-zero}
 use native.Mathlib.Omega.{arith}
-use lib.ListN.{length, take, drop, get_or, length-drop}
-use lib.Seq.{get_or-drop, drop-drop}
+use lib.ListN.{length, drop, length-drop}
 use borrow.Author.Tests.{lt-leb}
 use Rattle.laws.proofs.TestLaws.{by_test}
 use Rattle.ledger.specs.Calls.{Call}
 use Rattle.refinement.specs.Happened.{call_with}
-use Rattle.script.specs.Script.{head, input_by, frame_length, whole, input, calls_of_records, calls_in}
+use Rattle.script.specs.Script.{head, frame_length, whole, input, calls_of_records, calls_in}
 
 -- any bound on the number of records will do that is at least the number of bytes
 calls_of_records_enough : (n m k : ℕ) (bytes : List ℕ) → length bytes ≤ m → length bytes ≤ k
@@ -41,9 +39,3 @@ module _ (n : ℕ) (bytes : List ℕ) where
   pub calls_in_end : whole bytes ≡ false → calls_in n bytes ≡ []
   unfolding calls_of_records
   calls_in_end e = calls_of_records_enough n (length bytes) (suc (length bytes)) bytes (omega arith) (omega arith) ∙ rw e
-
--- the record at a place of a script
-pub input-at : (script : List ℕ) (at : ℕ)
-    → input_by (get_or script at 0) (get_or script (at + 1) 0) (take (frame_length (drop at script)) (drop (at + head) script))
-    ≡ input (drop at script)
-input-at script at = simp (get_or-drop, drop-drop, add-zero)

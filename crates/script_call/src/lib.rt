@@ -8,7 +8,7 @@ use answer::Answer;
 use profile::Profile;
 use state::State;
 
-// One call of a script: kind 0 is a received frame, any other an I²C read.
+// One call of a script: kind 0 is a received frame, any other an I²C read. The kind is a record's byte, as `input_by` of specs/ has it.
 pub fn call(
     p: Profile,
     s: State,

@@ -1,51 +1,51 @@
--- `replay::run` meets its contract. Invariant: `Reached`, the records before `at` were followed. A turn follows one more, by
--- `reached_record`; where no whole record stands at `at`, the script is at its end, by `reached_end`.
-use Rattle.std.proofs.Common.{◌≡◌, refl, ◌+◌, ◌-◌, arith, length, take, drop, get_or, length-drop, rules, le-leb}
+-- `replay::run` meets its contract. Invariant: `Reached`, the records before `rest` were followed. A turn follows one more, by
+-- `reached_record`; where `rest` begins with no whole record, the script is at its end, by `reached_end`.
+use Rattle.std.proofs.Common.{◌≡◌, refl, ap, ◌∙◌, ℕ, ◌+◌, arith, length, take, drop, get_or, drop-drop, rules, le-leb}
 use borrow.Author.Tests.{lt-leb}
 use Rattle.script.specs.Script.{head, input_by, frame_length}
-use Rattle.script.proofs.Scripts.{input-at}
 use Rattle.script.proofs.Following.{reached_none, reached_record, reached_end}
 use Rattle.replay.proofs.run.Goals as goal
 
-pub loop-at-init : goal.loop-at-init
-loop-at-init c = reached_none _ _ _ _ c.fresh-s.result c.fresh-s.ensures.all
+pub loop-rest-init : goal.loop-rest-init
+loop-rest-init c = reached_none _ _ _ _ c.fresh-s.result c.fresh-s.ensures.all
 
-pub returns-then-script-start : goal.returns-then-script-start
-returns-then-script-start c =
-    let at = c.loop-at.at in
-    let script = c.args.script.now in
-    let length_is = c.frame_length-n.ensures in
-    reached_end _ _ _ _ c.loop-at.invariant
-    (lt-leb _ (length (drop at script)) (omega (arith, length_is, length-drop at script, c.if-script-start.true)))
+pub returns-then-behind-n : goal.returns-then-behind-n
+returns-then-behind-n c =
+    let rest = c.loop-rest.rest.now in
+    reached_end _ _ _ _ c.loop-rest.invariant
+    (lt-leb _ (length rest)
+    (omega (arith, c.frame_length-n.ensures, c.split_at.ensures.back_len, c.if-behind-n.true)))
 
-pub loop-at-preserved : goal.loop-at-preserved
-loop-at-preserved c =
-    let at = c.loop-at.at in
+pub loop-rest-preserved : goal.loop-rest-preserved
+loop-rest-preserved c =
+    let rest = c.loop-rest.rest.now in
     let n = c.frame_length-n.result in
-    let script = c.args.script.now in
-    let length_is = c.frame_length-n.ensures in
-    let cut : at + head + n - (at + head) ≡ frame_length (drop at script) = omega (arith, length_is) in
-    reached_record _ script _ _ c.loop-at.invariant
+    let n_is = c.frame_length-n.ensures in
+    let cut = c.split_at.ensures.back in
+    let next = c.split_at-in-loop-rest in
+    let frame_is : next.result.0.now ≡ take (frame_length rest) (drop head rest) =
+    next.ensures.front ∙ ap (take n) cut ∙ ap (λ (k : ℕ). take k (drop head rest)) n_is in
+    let next_is : next.result.1.now ≡ drop (head + frame_length rest) rest =
+    next.ensures.back ∙ ap (drop n) cut ∙ drop-drop n head rest ∙ ap (λ (k : ℕ). drop (head + k) rest) n_is in
+    reached_record _ c.args.script.now _ _ c.loop-rest.invariant
     (record {
-      input = input_by (get_or script at 0) (get_or script (at + 1) 0) (take (at + head + n - (at + head)) (drop (at + head) script));
-      before = c.loop-at.out;
+      input = input_by (get_or rest 0 0) (get_or rest 1 0) next.result.0.now;
+      before = c.loop-rest.out;
       after = c.call-answer.new.out;
       answer = c.call-answer.result;
       flash = c.call-answer.new.flash;
     })
-    (at + head + n)
-    (le-leb (head + frame_length (drop at script)) (length (drop at script))
-    (omega (arith, length_is, length-drop at script, c.if-script-start.false, c.loop-at-test.true)))
-    (omega (arith, length_is))
+    next.result.1.now
+    (le-leb (head + frame_length rest) (length rest)
+    (omega (arith, n_is, c.split_at.ensures.back_len, c.if-behind-n.false, c.loop-rest-test.true)))
+    next_is
     refl
     (search rules)
     (search rules)
-    (rw cut (input-at script at))
+    (rw frame_is)
     c.call-answer.ensures
 
 pub returns : goal.returns
 returns c =
-    let at = c.loop-at.at in
-    let script = c.args.script.now in
-    reached_end _ _ _ _ c.loop-at.invariant
-    (lt-leb _ (length (drop at script)) (omega (arith, length-drop at script, c.loop-at-test.false)))
+    reached_end _ _ _ _ c.loop-rest.invariant
+    (lt-leb _ (length c.loop-rest.rest.now) (omega (arith, c.loop-rest-test.false)))
