@@ -4,10 +4,10 @@
 
 ghost use Rattle.std.specs.Prelude.{◌≡◌};
 ghost use Rattle.rules.specs.Frames as frames;
-ghost use Rattle.ledger.specs.Ledger.{offsets};
 ghost use Rattle.alarms.specs.Alarms.{erased_nothing};
 
 use byte_parts::byte_or;
+use frame_sizes::header_length;
 use rules::kinds::{Bus, Verdict};
 use state::Upload;
 
@@ -15,39 +15,16 @@ use state::Upload;
 pub fn ignored(v: Verdict) -> bool
     ensures { result ≡ frames.ignored v }
 {
-    match v {
-        Verdict::Reset => false,
-        Verdict::ResetAddress => false,
-        Verdict::Ignored(_) => true,
-        Verdict::BadTransfer => false,
-        Verdict::BadSum => false,
-        Verdict::Command => false,
-    }
-}
-
-// Where the command stands in a request, and the status in a reply.
-fn command_place(bus: Bus) -> usize
-    ensures { result ≡ (offsets bus).command }
-{
-    match bus {
-        Bus::I2c => 0,
-        Bus::Rs485 => 1,
-    }
+    matches!(v, Verdict::Ignored(_))
 }
 
 // Erased nothing: the call, given by its frame, number and reply, is an answered finalize, and the erase count is 0.
 pub fn erased_nothing(bus: Bus, frame: &[u8], number: usize, reply: &[u8], after: Upload) -> bool
     ensures { result ≡ erased_nothing bus frame.now number reply.now after.count }
 {
-    let place = command_place(bus);
-    if byte_or(frame, place, 0) != 0x07 {
-        return false;
-    }
-    if number != 0 {
-        return false;
-    }
-    if byte_or(reply, place, 1) != 0 {
-        return false;
-    }
-    after.count == 0
+    let place = header_length(bus);
+    byte_or(frame, place, 0) == 0x07
+        && number == 0
+        && byte_or(reply, place, 1) == 0
+        && after.count == 0
 }

@@ -3,10 +3,7 @@
 // to C. No call has a `requires`: any bytes of any length get the answer that specs/ fixes. No byte is changed.
 #![tactic(auto)]
 
-ghost use Rattle.std.specs.Prelude.{◌≡◌, ◌≤◌, length};
-ghost use Rattle.state.specs.View.{largest_page};
-ghost use Rattle.fields.specs.Fields.{part};
-ghost use Rattle.state_bytes.specs.StateBytes.{state_size, waiting_from};
+ghost use Rattle.std.specs.Prelude.{◌≡◌};
 ghost use Rattle.lost_bytes.specs.Lost.{upload_of};
 ghost use Rattle.childbus_alarms.specs.Told.{SilenceTold};
 ghost use Rattle.childbus_alarms.specs.Silence.{silent, ignored_silence, command_silence, silence_of, silence_number};
@@ -15,25 +12,19 @@ ghost use Rattle.childbus_alarms.specs.AlarmBytes.{page_changed_number};
 
 use byte_parts::byte_or;
 use byte_slices::four_at;
-use fields::clip;
+use fields::{array_at, clip};
 use frame_sizes::header_length;
 use profile_bytes::profile_from;
 use rules::kinds::{Reason, Verdict};
 use state::{State, Upload};
-use state_bytes::{REPLY_AT, STATE_BYTES, WAITING_AT, head_from};
+use state_bytes::{STATE_BYTES, WAITING_AT, head_from};
 use upload_ends::UploadEnd;
 
 // Whether a board call's number means that nothing was sent.
 fn silent(number: u32) -> bool
     ensures { result ≡ silent number }
 {
-    if number == 1 {
-        return true;
-    }
-    if number < 15 {
-        return false;
-    }
-    number <= 18
+    matches!(number, 1 | 15..=18)
 }
 
 // Why a frame is ignored.
@@ -54,13 +45,11 @@ fn ignored_silence(reason: Reason) -> u32
 fn command_silence(command: u8) -> u32
     ensures { result ≡ command_silence command }
 {
-    if command == 0x01 {
-        return 7;
+    match command {
+        0x01 => 7,
+        0x05 => 9,
+        _ => 0,
     }
-    if command == 0x05 {
-        return 9;
-    }
-    0
 }
 
 // Why a frame with this verdict and command has no reply.
@@ -103,35 +92,24 @@ pub fn silence_told()
     ensures { SilenceTold }
 {}
 
-// The buffer of the waiting bytes.
-fn waiting_at(b: &[u8]) -> [u8; State::LARGEST_PAGE]
-    requires { state_size ≤ length b.now }
-    ensures { result ≡ part b.now waiting_from largest_page }
-{
-    let mut waiting = [0u8; State::LARGEST_PAGE];
-    byte_slices::store(&mut waiting, 0, &b[WAITING_AT..REPLY_AT]);
-    waiting
-}
-
 // The upload that bytes say.
+#[tactic(auto, unfolding(crate::specs::AlarmBytes::upload_at))]
 fn upload_from(b: &[u8]) -> Upload
     ensures { upload_of result ≡ upload_at b.now }
 {
     if b.len() < STATE_BYTES {
-        let waiting = [0u8; State::LARGEST_PAGE];
         return Upload {
             next: 0,
             held: 0,
             count: 0,
-            waiting,
+            waiting: [0; State::LARGEST_PAGE],
         };
     }
-    let waiting = waiting_at(b);
     Upload {
         next: four_at(b, 4),
         held: four_at(b, 8),
         count: four_at(b, 12),
-        waiting,
+        waiting: array_at(b, WAITING_AT),
     }
 }
 

@@ -1,23 +1,25 @@
 -- From what the decoder and the version rule promise to what their calls of the boundary do.
+use Rattle.std.specs.Prelude.{Err}
 use mathlib.Core.Path.{◌≡◌, refl, sym, ap, ◌∙◌}
 use mathlib.Core.Bool.{cond}
 use mathlib.Core.List.{List}
-use Prim.Native.Nat.{ℕ, ◌≤◌}
+use Prim.Native.Nat.{ℕ}
 use lib.Dec.{eqb}
 use borrow.Author.Tests.{le-ltb}
 use Rattle.rules.specs.declared.kinds.Bus.{Bus}
 use Rattle.rules.specs.declared.requests.Decoded.{Decoded}
 use Rattle.rules.specs.declared.requests.Decoded.TheVariants.{Reply, NotServed, TooShort, SumWrong, OtherAddress, LengthWrong}
 use Rattle.rules.specs.declared.requests.Decoded.TheVariants.{StatusUnknown, ResultsMissing}
-use Rattle.rules.specs.declared.requests.Version.{Version}
-use Rattle.rules.specs.declared.requests.Version.TheVariants.{Known, ApplicationRunning, Unknown}
+use Rattle.rules.specs.declared.requests.VersionError.{VersionError}
+use Rattle.rules.specs.declared.requests.VersionError.TheVariants.{ApplicationRunning, Unknown}
 use Rattle.rules.specs.Master.{Decoding, unread, decoded_as, decoded, decoded_read, results_in}
 use Rattle.rules.specs.Master.{result_bytes, which_read, Ruled, ruled_as, version_rule}
 use Rattle.laws.proofs.TestLaws.{by_test}
 use Rattle.decoder.specs.Calls.{Decodes}
 use Rattle.fields.specs.Fields.{clipped}
 use Rattle.fields.proofs.Clipping.{version_rule-clipped}
-use Rattle.profile_bytes.specs.ProfileBytes.{bus_of}
+use Rattle.rules.specs.Buses.{bus_number}
+use Rattle.profile_bytes.proofs.BusLaws.{number_most, bus_of_number}
 use Rattle.childbus_replies.specs.ReplyBytes.{decoded_left, chosen_read}
 
 -- the decoder, on a bus that there is
@@ -33,11 +35,11 @@ unread-refusal LengthWrong h = refl
 unread-refusal StatusUnknown h = refl
 unread-refusal ResultsMissing h = refl
 
-module _ (bus code address asked : ℕ) (reply : List ℕ) {b : Bus} {answer : Decoded} (least : bus ≤ 1) (b-is : b ≡ bus_of bus)
+module _ (bus code address asked : ℕ) (reply : List ℕ) (b : Bus) {answer : Decoded} (numbered : bus_number b ≡ bus)
     (e : Decodes answer (decoded b code address asked reply) reply) where
   decoded_as_lem : decoded_as answer ≡ decoded_left bus code address asked reply
   unfolding decoded_left
-  decoded_as_lem = rw (le-ltb 1 bus least, ← b-is) e.answer_is
+  decoded_as_lem = rw (le-ltb 1 bus (number_most b numbered), ← bus_of_number b numbered) e.answer_is
 
   pub decoded-refusal : {n : ℕ} → ((status start len : ℕ) → answer ≡ Reply status start len → ⊥) → n ≡ (decoded_as answer).number
       → unread n ≡ decoded_left bus code address asked reply
@@ -65,8 +67,7 @@ version_left major minor {b = b} a-is b-is e =
     e ∙ ap (λ (x : ℕ). version_rule x b) a-is ∙ ap (version_rule (clipped major)) b-is ∙ version_rule-clipped major minor
 
 -- an answer that names no version has no values
-pub version_unnamed : (v : Version) → ((major minor : ℕ) → v ≡ Known major minor → ⊥) → {n : ℕ} → n ≡ (ruled_as v).number
-    → record { number = n; major = 0; minor = 0 } ≡ ruled_as v
-version_unnamed (Known major minor) h e = absurd (h major minor refl)
-version_unnamed ApplicationRunning h e = rw e
-version_unnamed Unknown h e = rw e
+pub version_unnamed : (v : VersionError) {n : ℕ} → n ≡ (ruled_as (Err v)).number
+    → record { number = n; major = 0; minor = 0 } ≡ ruled_as (Err v)
+version_unnamed ApplicationRunning e = rw e
+version_unnamed Unknown e = rw e

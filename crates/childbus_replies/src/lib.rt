@@ -10,7 +10,7 @@ ghost use Rattle.childbus_replies.specs.ReplyBytes.{decoded_left, ReadsLeft, rea
 use fields::clip;
 use numbers::{decoded_number, version_number};
 use rules::kinds::Bus;
-use rules::requests::{Decoded, Version};
+use rules::requests::Decoded;
 
 // A reply taken apart.
 pub fn childbus_decode(
@@ -29,11 +29,11 @@ pub fn childbus_decode(
     *status = 0;
     *start = 0;
     *len = 0;
-    if 1 < bus {
+    let Ok(bus) = Bus::try_from(bus) else {
         return 7;
-    }
+    };
     let answer = decoder::decode::decode(
-        profile_bytes::bus_of(bus as usize),
+        bus,
         code as usize,
         address as usize,
         asked as usize,
@@ -47,7 +47,7 @@ pub fn childbus_decode(
     else {
         return decoded_number(answer);
     };
-    *status = status_byte as u32;
+    *status = u32::from(status_byte);
     *start = place;
     *len = long;
     0
@@ -103,16 +103,12 @@ pub fn childbus_version(major: u32, minor: u32, known_major: &mut u32, known_min
         (version_rule major minor) }
 {
     let answer = version_rule::version(clip(major), clip(minor));
-    let Version::Known {
-        major: counted,
-        minor: within,
-    } = answer
-    else {
+    let Ok(known) = answer else {
         *known_major = 0;
         *known_minor = 0;
         return version_number(answer);
     };
-    *known_major = counted as u32;
-    *known_minor = within as u32;
+    *known_major = u32::from(known.major);
+    *known_minor = u32::from(known.minor);
     0
 }

@@ -10,17 +10,18 @@ use Rattle.rules.specs.Master.{encoded, running_reset}
 use Rattle.encoder.specs.Calls.{Encodes}
 use Rattle.fields.specs.Fields.{clipped}
 use Rattle.fields.proofs.Clipping.{version_rule-clipped}
-use Rattle.profile_bytes.specs.ProfileBytes.{bus_of}
+use Rattle.rules.specs.Buses.{bus_number}
+use Rattle.profile_bytes.proofs.BusLaws.{number_most, bus_of_number}
 use Rattle.childbus_requests.specs.RequestBytes.{EncodedLeft, encoded_left, reset_left}
 
-module _ (bus longest : ℕ) (out : List ℕ) {b : Bus} {after : List ℕ} {number made n m : ℕ} (least : bus ≤ 1) (b-is : b ≡ bus_of bus)
+module _ (bus longest : ℕ) (out : List ℕ) (b : Bus) {after : List ℕ} {number made n m : ℕ} (numbered : bus_number b ≡ bus)
     (n-is : n ≡ number) (m-is : m ≡ made) where
   pub encoded-left : (request : Request) (destination : ℕ) (bytes : List ℕ)
       → Encodes number made (encoded b longest request destination bytes (length out)) out after
       → ◌≡◌ {A = EncodedLeft} (record { number = n; made = m; out = after }) (encoded_left bus longest request destination bytes out)
   unfolding encoded_left
   encoded-left request destination bytes e =
-      rw (le-ltb 1 bus least, n-is ∙ e.number_is, m-is ∙ e.length_is, e.output_is, b-is)
+      rw (le-ltb 1 bus (number_most b numbered), n-is ∙ e.number_is, m-is ∙ e.length_is, e.output_is, bus_of_number b numbered)
 
   -- major and minor are clipped to a byte
   pub reset_left_lem : (major minor : ℕ) {x y : ℕ} → x ≡ clipped major → y ≡ clipped minor
@@ -29,11 +30,11 @@ module _ (bus longest : ℕ) (out : List ℕ) {b : Bus} {after : List ℕ} {numb
   unfolding running_reset reset_left
   reset_left_lem major minor x-is y-is e =
       rw (
-        le-ltb 1 bus least,
+        le-ltb 1 bus (number_most b numbered),
         n-is ∙ e.number_is,
         m-is ∙ e.length_is,
         e.output_is,
-        b-is,
+        bus_of_number b numbered,
         x-is,
         y-is,
         version_rule-clipped major minor,

@@ -1,7 +1,7 @@
 // The C boundary of a master, its requests: what include/childbus.h declares for them, over byte slices and numbers. A slice is a pointer
 // and a length to C, a `&mut` number the place of a single result. No call has a `requires`: any bytes of any length get the answer that
 // specs/ fixes.
-#![tactic(auto)]
+#![tactic(auto, unfolding(crate::specs::RequestBytes::request_of))]
 
 mod requests;
 
@@ -11,6 +11,7 @@ ghost use Rattle.childbus_requests.specs.RequestBytes.{EncodedLeft, encoded_left
 use crate::requests::{general_of, request_of};
 use fields::clip;
 use numbers::{encoded_length, encoded_number, reset_length, reset_number};
+use rules::kinds::Bus;
 use rules::requests::Request;
 
 // A request on a bus, where there is such a bus.
@@ -26,12 +27,12 @@ fn encode_request(
     ensures { ◌≡◌ {A = EncodedLeft} (record { number = result; made = made.new; out = out.new })
         (encoded_left bus longest request destination «data».now out.old) }
 {
-    if 1 < bus {
+    let Ok(bus) = Bus::try_from(bus) else {
         *made = 0;
         return 2;
-    }
+    };
     let answer = encoder::encode::encode(
-        profile_bytes::bus_of(bus as usize),
+        bus,
         longest as usize,
         request,
         destination as usize,
@@ -89,17 +90,11 @@ pub fn childbus_reset_running(
     ensures { ◌≡◌ {A = EncodedLeft} (record { number = result; made = made.new; out = out.new })
         (reset_left bus longest major minor out.old) }
 {
-    if 1 < bus {
+    let Ok(bus) = Bus::try_from(bus) else {
         *made = 0;
         return 2;
-    }
-    let answer = reset_running::reset_running(
-        profile_bytes::bus_of(bus as usize),
-        longest as usize,
-        clip(major),
-        clip(minor),
-        out,
-    );
+    };
+    let answer = reset_running::reset_running(bus, longest as usize, clip(major), clip(minor), out);
     *made = reset_length(answer);
     reset_number(answer)
 }

@@ -28,9 +28,8 @@ pub fn request_of(code: u32, a: u32, b: u32) -> Request
 pub fn general_of(reset: u32) -> Request
     ensures { result ≡ general_of reset }
 {
-    if reset == 0 {
-        Request::ResetAddress
-    } else {
-        Request::Reset
+    match reset {
+        0 => Request::ResetAddress,
+        _ => Request::Reset,
     }
 }

@@ -1,4 +1,4 @@
-// What a byte layout is made of, beside the numbers and bytes of `byte_slices`: numbers of 32 bits that stand for a byte, and arrays of bytes.
+// What a byte layout is made of, beside the numbers and bytes of `byte_slices`: numbers of 32 bits that stand for a byte, and arrays.
 #![tactic(auto)]
 
 ghost use Rattle.std.specs.Prelude.{◌≡◌, ◌+◌, ◌≤◌, length};

@@ -1,2 +1,3 @@
 -- Laws of the profile in bytes.
 pub mod Laws
+pub mod BusLaws

@@ -2,12 +2,12 @@
 // Bytes that hold no profile read as a profile out of range, so that the board's own test answers them.
 #![tactic(auto)]
 
-ghost use Rattle.std.specs.Prelude.{◌≡◌, ◌≤◌, length};
-ghost use Rattle.fields.specs.Fields.{part};
+ghost use Rattle.std.specs.Prelude.{◌≡◌, Some, None, cond, leb};
 ghost use Rattle.profile_bytes.specs.BothWays.{BothWays};
-ghost use Rattle.profile_bytes.specs.ProfileBytes.{profile_size, profile_said, no_profile, profile_at, bus_of, page_of};
+ghost use Rattle.profile_bytes.specs.ProfileBytes.{profile_held, profile_said, no_profile, profile_at, page_of};
 
 use byte_slices::{four_at, wide};
+use fields::array_at;
 use profile::Profile;
 use rules::kinds::Bus;
 use state::State;
@@ -15,52 +15,39 @@ use state::State;
 // How many bytes a profile takes.
 pub const PROFILE_BYTES: usize = 36;
 
-// 0 I²C, 1 RS485.
-pub fn bus_of(x: usize) -> Bus
-    ensures { result ≡ bus_of x }
+// The page of byte 6, if it is one: 0 is 64 bytes, 1 is 128.
+fn page_of(x: u8) -> Option<usize>
+    ensures { result ≡ cond (leb x 1) (Some (page_of x)) None }
 {
-    if x == 0 { Bus::I2c } else { Bus::Rs485 }
-}
-
-// The page of byte 6: 0 is 64 bytes, 1 is 128.
-fn page_of(x: u8) -> usize
-    ensures { result ≡ page_of x }
-{
-    if x == 0 {
-        State::SMALLEST_PAGE
-    } else {
-        State::LARGEST_PAGE
+    match x {
+        0 => Some(State::SMALLEST_PAGE),
+        1 => Some(State::LARGEST_PAGE),
+        _ => None,
     }
 }
 
-fn serial_at(b: &[u8]) -> [u8; Profile::LONGEST_SERIAL]
-    requires { profile_size ≤ length b.now }
-    ensures { result ≡ part b.now 20 16 }
-{
-    let mut serial = [0u8; Profile::LONGEST_SERIAL];
-    byte_slices::store(&mut serial, 0, &b[20..36]);
-    serial
-}
-
 // The profile of bytes that hold one.
-fn profile_said(b: &[u8]) -> Profile
-    requires { profile_size ≤ length b.now }
-    ensures { result ≡ profile_said b.now }
+fn profile_held(b: &[u8]) -> Option<Profile>
+    ensures { result ≡ cond (profile_held b.now) (Some (profile_said b.now)) None }
 {
-    let serial = serial_at(b);
-    Profile {
-        bus: bus_of(wide(b[0])),
+    if b.len() < PROFILE_BYTES {
+        return None;
+    }
+    let bus = Bus::try_from(u32::from(b[0])).ok()?;
+    let page = page_of(b[6])?;
+    Some(Profile {
+        bus,
         longest: four_at(b, 8),
-        page: page_of(b[6]),
+        page,
         size: four_at(b, 12),
         offset: four_at(b, 16),
         hardware: b[1],
         compatible: b[2],
         actual: b[3],
         version: b[4],
-        serial,
+        serial: array_at(b, 20),
         seriallen: wide(b[5]),
-    }
+    })
 }
 
 // No board is built so: M is 0.
@@ -83,21 +70,11 @@ fn no_profile() -> Profile
 }
 
 // The profile that bytes say.
+#[tactic(auto, unfolding(crate::specs::ProfileBytes::profile_at))]
 pub fn profile_from(b: &[u8]) -> Profile
     ensures { result ≡ profile_at b.now }
 {
-    if b.len() < PROFILE_BYTES {
-        return no_profile();
-    }
-    let bus = b[0];
-    if 1 < bus {
-        return no_profile();
-    }
-    let page = b[6];
-    if 1 < page {
-        return no_profile();
-    }
-    profile_said(b)
+    profile_held(b).unwrap_or_else(no_profile)
 }
 
 // The layout loses nothing of a profile.

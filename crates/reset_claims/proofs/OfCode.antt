@@ -1,9 +1,10 @@
 -- The code's reset: the bytes that it made are those of the rules, and so the contract of `board::receive` says what they do.
+use Rattle.std.specs.Prelude.{Result}
 use mathlib.Core.Path.{◌≡◌, refl, sym, ap, subst, ◌∙◌}
 use mathlib.Core.List.{List}
 use Prim.Native.Nat.{ℕ, ◌<◌}
 use lib.ListN.{length, take}
-use Rattle.rules.specs.declared.requests.RunningReset.{RunningReset}
+use Rattle.rules.specs.declared.requests.ResetError.{ResetError}
 use Rattle.rules.specs.State.{fresh}
 use Rattle.rules.specs.Numbers.{number}
 use Rattle.rules.specs.Board.{Called, nothing, received}
@@ -21,7 +22,7 @@ use Rattle.reset_claims.specs.Running.{ResetInput, Written, reset_bytes}
 use Rattle.reset_claims.specs.OfCode.{BoardFresh, CodeResets}
 use Rattle.reset_claims.proofs.Resets.{unrefused, received_reset}
 
-module _ (p : Profile) (s : State) (d : List ℕ) (h : Happened) (longest major minor a : ℕ) (answer : RunningReset) (before after : List ℕ)
+module _ (p : Profile) (s : State) (d : List ℕ) (h : Happened) (longest major minor a : ℕ) (answer : Result ℕ ResetError) (before after : List ℕ)
     (e : Encodes (reset_number answer) (reset_length answer) (running_reset p.bus longest major minor (length before)) before after)
     (zero : reset_number answer ≡ 0) (general : Beside p.bus a 0) (input : h.input ≡ Receive a (take (reset_length answer) after))
     (promised : Promised p s d h) (few : number h.answer.outcome < 2) where

@@ -1,12 +1,12 @@
 -- Both ways of a state: what is written is read back, and what is read and written back changes no byte. Bytes that hold none are
 -- malformed.
 use mathlib.Core.Path.{◌≡◌, refl, sym, ap, ◌∙◌}
-use mathlib.Core.Bool.{true, false, ◌&&◌}
+use mathlib.Core.Bool.{true, false}
 use mathlib.Core.Logic.{inl}
 use mathlib.Core.List.{List, [], ◌∷◌, ◌++◌}
-use Prim.Native.Nat.{ℕ, ◌+◌, ◌-◌, ◌%◌, ◌≤◌, ◌<◌}
+use Prim.Native.Nat.{ℕ, ◌-◌, ◌%◌, ◌≤◌, ◌<◌}
 use native.Mathlib.Omega.{arith}
-use native.Mathlib.Nat.{zero-mod, mod-le, mod-lt}
+use native.Mathlib.Nat.{zero-mod, mod-lt}
 use lib.Dec.{leb}
 use lib.ListN.{length, take, drop, get_or, length-append, length-drop}
 use lib.Seq.{drop_at, drop-drop}
@@ -24,8 +24,8 @@ use Rattle.state.proofs.Laws.{used-laid}
 use Rattle.byte_slices.specs.Four.{four_at, four_bytes}
 use Rattle.fields.specs.Fields.{Bytes, part}
 use Rattle.fields.proofs.Laws.{drop_four, four_at-four_bytes, part_four, laid-part, part-laid, part_behind, part-before, overlay_own}
-use Rattle.state_bytes.specs.StateBytes.{waiting_from, reply_from, state_size, state_held, state_said, no_state, state_at, kind_byte, own_byte}
-use Rattle.state_bytes.specs.StateBytes.{running_byte, head_bytes, state_written}
+use Rattle.state_bytes.specs.StateBytes.{waiting_from, reply_from, state_size, state_held, state_said, no_state, state_at}
+use Rattle.state_bytes.specs.StateBytes.{head_bytes, state_written}
 use Rattle.state_bytes.specs.BothWays.{StateFits, RestKept}
 use Rattle.state_bytes.proofs.FlagLaws.{address_of_bytes, kind_byte_address_of, own_byte_address_of, running_byte_lem, running_byte-byte}
 use Rattle.state_bytes.proofs.FlagLaws.{kind_byte_most, running_byte_most}

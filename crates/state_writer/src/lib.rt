@@ -77,9 +77,5 @@ pub fn clear(b: &mut [u8])
     requires { state_size ≤ length b.old }
     ensures { b.new ≡ laid (replicate state_size 0) b.old }
 {
-    let mut i = 0;
-    while i < STATE_BYTES {
-        b[i] = 0;
-        i += 1;
-    }
+    b[..STATE_BYTES].fill(0);
 }

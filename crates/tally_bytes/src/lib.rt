@@ -11,19 +11,12 @@ use tally::{Tally, counted_by};
 // How many bytes a tally takes.
 pub const TALLY_BYTES: usize = 10;
 
-// A byte as a number of 16 bits.
-fn wide(x: u8) -> u16
-    ensures { (result ≡ x) × (result ≤ 255) }
-{
-    x as u16
-}
-
 // The counter in the two bytes from a place on.
 fn counter_at(b: &[u8], at: usize) -> u16
     requires { at + 2 ≤ length b.now }
     ensures { result ≡ counter_at b.now at }
 {
-    wide(b[at]) + wide(b[at + 1]) * 256
+    u16::from(b[at]) + u16::from(b[at + 1]) * 256
 }
 
 // The tally that ten bytes say.

@@ -4,15 +4,15 @@ use Rattle.childbus_requests.specs.RequestBytes.{reset_left}
 use Rattle.childbus_requests.proofs.RequestLaws.{reset_left_lem}
 use Rattle.childbus_requests.proofs.childbus_reset_running.Goals as goal
 
-pub returns-then-bus-gt1 : goal.returns-then-bus-gt1
+pub returns-in_default : goal.returns-in_default
 unfolding reset_left
-returns-then-bus-gt1 c = rw (lt-ltb 1 _ c.if-bus-gt1.true)
+returns-in_default c = rw (lt-ltb 1 _ c.in_default.ensures.1)
 
 pub returns : goal.returns
 returns c =
     reset_left_lem c.args.bus c.args.longest c.args.out.now
-    c.if-bus-gt1.false
-    c.bus_of.ensures
+    c.in-Ok.bus
+    c.in-Ok.ensures
     c.reset_number.ensures
     c.reset_length.ensures
     c.args.major

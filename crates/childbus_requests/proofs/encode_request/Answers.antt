@@ -4,15 +4,15 @@ use Rattle.childbus_requests.proofs.RequestLaws.{encoded-left}
 use Rattle.childbus_requests.specs.RequestBytes.{encoded_left}
 use Rattle.childbus_requests.proofs.encode_request.Goals as goal
 
-pub returns-then-bus-gt1 : goal.returns-then-bus-gt1
+pub returns-in_default : goal.returns-in_default
 unfolding encoded_left
-returns-then-bus-gt1 c = rw (lt-ltb 1 _ c.if-bus-gt1.true)
+returns-in_default c = rw (lt-ltb 1 _ c.in_default.ensures.1)
 
 pub returns : goal.returns
 returns c =
     encoded-left c.args.bus c.args.longest c.args.out.now
-    c.if-bus-gt1.false
-    c.bus_of.ensures
+    c.in-Ok.bus
+    c.in-Ok.ensures
     c.encoded_number.ensures
     c.encoded_length.ensures
     c.args.request
