@@ -4,8 +4,8 @@
     words.py --write           fills `means` and `next` of the numbers and statuses from docs/NUMBERS.md
 
 Every text of the table outside of "page", "means" and "next" is a sentence of the bench: a whole line of one of its strings, without its
-indent, its ** and the words in front of it; three sentences of other sources are looked for in the lessons' stored outputs, or in
-docs/BENCH.md. Every number, status and alarm of the bench stands in the table.
+indent, its ** and the words in front of it, or its beginning up to a value where the text ends in a blank; three sentences of other sources
+are looked for in the lessons' stored outputs, or in docs/BENCH.md. Every number, status and alarm of the bench stands in the table.
 """
 
 import argparse
@@ -17,7 +17,7 @@ import sys
 ROOT = pathlib.Path(__file__).resolve().parents[2]
 SOURCES = [
     "bench_wording/src/*.rt", "bench_alarms/src/*.rt", "bench_requests/src/uploads.rt", "bench_plain/src/*.rt",
-    "bench_exchange/src/replies.rt", "bench_exchange/src/frames.rt", "bench_settings/src/*.rt",
+    "bench_exchange/src/replies.rt", "bench_exchange/src/frames.rt", "bench_exchange/src/session.rt", "bench_settings/src/*.rt",
 ]
 # The summary at the end of a script.
 SUMMARY = "shown.rt"
@@ -66,6 +66,12 @@ def bench_sentences():
     return {form for _, text in bench_strings() for line in sentences(text) for form in without_lead(plain(line))} - {""}
 
 
+def beginnings():
+    """The beginnings of sentences that end before a value."""
+    lines = [plain(line) for _, text in bench_strings() for line in sentences(text)]
+    return {line[:value.start()].strip() for line in lines for value in re.finditer("%", line)} - {""}
+
+
 def texts(table, path=()):
     """Every text of the table with the names that lead to it."""
     if isinstance(table, str):
@@ -95,13 +101,14 @@ def is_stored(text, outputs):
 
 
 def not_of_the_bench(table):
-    known, outputs = bench_sentences(), stored()
+    known, begun, outputs = bench_sentences(), beginnings(), stored()
     for path, text in texts(table):
         if path[0] == "page" or path[-1] in ("means", "next"):
             continue
         for line in bench_form(path, text, table).split("\n"):
             place = ".".join(path)
-            if not (is_stored(text, outputs) if place in ELSEWHERE else plain(line) in known):
+            said = plain(line) in known or line.endswith(" ") and plain(line) in begun
+            if not (is_stored(text, outputs) if place in ELSEWHERE else said):
                 yield f"{place}: the bench does not say: {line}"
 
 

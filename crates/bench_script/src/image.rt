@@ -42,7 +42,7 @@ fn unopened(error: ErrorKind) -> &'static str {
     }
 }
 
-// Reads until the buffer is full or the file ends: how many bytes.
+// Reads until the buffer is full or the file ends: how many bytes. std's read_exact does not say how many came before the end.
 fn read_full(file: &mut impl io::Read, out: &mut [u8]) -> io::Result<usize>
     ensures { IfOk result (λ n. n ≤ length out.old) }
 {

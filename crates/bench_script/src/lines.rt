@@ -27,7 +27,7 @@ fn whole<'a>(line: &'a mut [u8], n: usize) -> Line<'a> {
     }
 }
 
-// The next line, kept in the buffer. The last one may lack its line feed.
+// The next line, kept in the buffer. The last one may lack its line feed. std's read_until would keep all of a line, however long.
 pub fn read_line<'a>(input: &mut impl io::Read, line: &'a mut [u8]) -> io::Result<Line<'a>> {
     let mut n: usize = 0;
     for _ in 0..u64::MAX {
