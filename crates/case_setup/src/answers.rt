@@ -1,7 +1,7 @@
-// The fields of an answer, on standard output: numbers, byte strings, and whether an output is untouched.
+// Answers on standard output, their byte strings, and whether an output is untouched.
 use std::alloc::Global;
-use std::io;
 use std::io::{LineWriter, Stdout, Write};
+use std::{fmt, io};
 
 // What the lent output holds before a call.
 pub const UNTOUCHED: u8 = 0xA5;
@@ -31,70 +31,32 @@ impl Output {
         writer.flush()
     }
 
-    fn put(&mut self, bytes: &[u8]) {
+    // Any part of a line.
+    pub fn tell(&mut self, text: &impl fmt::Display) {
         if self.written.is_ok() {
-            self.written = self.writer.write_all(bytes);
+            self.written = write!(self.writer, "{text}");
         }
     }
+}
 
-    // The letter that a line begins with.
-    pub fn put_letter(&mut self, letter: u8) {
-        self.put(&[letter]);
-    }
+// A byte string: pairs of hexadecimal digits, `-` for no bytes.
+#[derive(Clone, Copy)]
+pub struct Hex<'a>(pub &'a [u8]);
 
-    // A space and a number.
-    pub fn put_number(&mut self, n: usize) {
-        if self.written.is_ok() {
-            self.written = write!(self.writer, " {n}");
+impl fmt::Display for Hex<'_> {
+    fn fmt<W: fmt::Write>(&self, f: &mut fmt::Formatter<W>) -> fmt::Result {
+        if self.0.is_empty() {
+            return f.write_str("-");
         }
-    }
-
-    // A space and each number.
-    pub fn put_numbers(&mut self, n: &[usize]) {
-        for number in n {
-            self.put_number(*number);
+        for byte in self.0 {
+            write!(f, "{byte:02x}")?;
         }
-    }
-
-    // A pair of hexadecimal digits.
-    fn put_byte(&mut self, byte: u8) {
-        if self.written.is_ok() {
-            self.written = write!(self.writer, "{byte:02x}");
-        }
-    }
-
-    // A space and a byte string: pairs of hexadecimal digits, `-` for no bytes.
-    pub fn put_hex(&mut self, s: &[u8]) {
-        self.put(b" ");
-        if s.len() == 0 {
-            self.put(b"-");
-        }
-        for byte in s {
-            self.put_byte(*byte);
-        }
-    }
-
-    // A space and a hash of 16 hexadecimal digits.
-    pub fn put_hash(&mut self, hash: u64) {
-        if self.written.is_ok() {
-            self.written = write!(self.writer, " {hash:016x}");
-        }
-    }
-
-    // The end of a line.
-    pub fn put_end(&mut self) {
-        self.put(b"\n");
+        Ok(())
     }
 }
 
 // bufferok: 1 if the output from a place on is as it was before the call.
-pub fn untouched(out: &[u8], at: usize) -> usize {
-    if out.len() < at {
-        return 0;
-    }
-    if out[at..].iter().all(|b| *b == UNTOUCHED) {
-        1
-    } else {
-        0
-    }
+pub fn untouched(out: &[u8], at: usize) -> u8 {
+    let rest = out.get(at..);
+    u8::from(rest.is_some_and(|rest| rest.iter().all(|byte| *byte == UNTOUCHED)))
 }

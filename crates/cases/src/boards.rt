@@ -1,126 +1,127 @@
 // The lines of board calls, R, C and I, and their answer: number, reply, state and flash.
 use answer::Answer;
-use case_setup::answers::{Output, UNTOUCHED, untouched};
-use case_setup::fields::Fields;
-use case_setup::setup::{Setup, byte};
+use case_setup::answers::{Hex, Output, UNTOUCHED, untouched};
+use case_setup::lines::{BoardCall, Frame};
+use case_setup::setup::Setup;
 use numbers::{board_number, reply_length};
+use profile::Profile;
 use rules::kinds::Address;
 use state::State;
+use std::fmt;
 use tally::{Tally, counted};
 use text::hash::fnv1a;
 use text::part::{first, within};
 
 // 256 is the default range.
-fn own(address: Address) -> usize {
+fn own(address: Address) -> u16 {
     match address {
         Address::DefaultRange => 256,
-        Address::Own(a) => a as usize,
+        Address::Own(a) => u16::from(a),
     }
 }
 
 // own running next w count waiting lastreply; of the bytes as many as a buffer holds
-fn put_state(out: &mut Output, s: State) {
-    let address = s.address;
-    let upload = s.upload;
-    let waiting = upload.waiting;
-    let last = s.last;
-    let reply = last.bytes;
-    out.put_numbers(&[
-        own(address),
-        if s.running { 1 } else { 0 },
-        upload.next,
-        upload.held,
-        upload.count,
-    ]);
-    out.put_hex(first(&waiting, upload.held));
-    out.put_hex(first(&reply, last.len));
+#[derive(Clone, Copy)]
+struct Told(State);
+
+impl fmt::Display for Told {
+    fn fmt<W: fmt::Write>(&self, f: &mut fmt::Formatter<W>) -> fmt::Result {
+        let state = self.0;
+        let own = own(state.address);
+        let running = u8::from(state.running);
+        let upload = state.upload;
+        let next = upload.next;
+        let held = upload.held;
+        let count = upload.count;
+        write!(f, "{own} {running} {next} {held} {count}")?;
+        let waiting = Hex(first(&upload.waiting, held));
+        let last = state.last;
+        let reply = Hex(first(&last.bytes, last.len));
+        write!(f, " {waiting} {reply}")
+    }
 }
 
-// A space, and the hash of the flash.
-fn put_hash(out: &mut Output, flash: &[u8]) {
-    out.put_hash(fnv1a(flash));
-}
-
-// letter number reply state flashhash bufferok
-fn put_answer(
-    out: &mut Output,
-    letter: u8,
-    answer: Answer,
-    reply: &[u8; 512],
-    room: usize,
-    flash: &[u8],
-) {
+// letter number reply state flashhash bufferok; the line goes on
+fn tell_answer(out: &mut Output, letter: char, answer: Answer, lent: &[u8], flash: &[u8]) {
     let outcome = answer.outcome;
+    let number = board_number(outcome);
     let made = reply_length(outcome);
-    out.put_letter(letter);
-    out.put_number(board_number(outcome) as usize);
-    out.put_hex(first(reply, made));
-    put_state(out, answer.state);
-    put_hash(out, flash);
-    out.put_number(untouched(first(reply, room), made));
+    let reply = Hex(first(lent, made));
+    let state = Told(answer.state);
+    let hash = fnv1a(flash);
+    let untouched = untouched(lent, made);
+    out.tell(&format_args!("{letter} {number} {reply} {state}"));
+    out.tell(&format_args!(" {hash:016x} {untouched}"));
 }
 
-// short long crc foreign answered
-fn put_tally(out: &mut Output, t: Tally) {
-    out.put_numbers(&[
-        t.short as usize,
-        t.long as usize,
-        t.sum as usize,
-        t.foreign as usize,
-        t.answered as usize,
-    ]);
+// short long crc foreign answered, and the end of the line
+fn tell_tally(out: &mut Output, tally: Tally) {
+    let Tally {
+        short,
+        long,
+        sum,
+        foreign,
+        answered,
+    } = tally;
+    out.tell(&format_args!(" {short} {long} {sum} {foreign} {answered}\n"));
 }
 
 // A received frame, and its answer under this letter; the line goes on.
-fn put_received(out: &mut Output, letter: u8, f: Fields, setup: Setup, flash: &mut [u8]) -> Answer {
-    let n = f.numbers;
-    let frame = f.first;
+fn received(
+    out: &mut Output,
+    letter: char,
+    frame: Frame<'_>,
+    setup: &Setup,
+    profile: Profile,
+    flash: &mut [u8],
+) -> Answer {
     let mut reply = [UNTOUCHED; 512];
-    let len = within(flash, setup.flashlen);
     let room = within(&reply, setup.room);
+    let lent = &mut reply[..room];
     let answer = board::receive(
-        setup.profile,
+        profile,
         setup.state,
-        byte(n[0]),
-        first(&frame, f.firstlen),
-        &mut flash[..len],
-        &mut reply[..room],
+        frame.address,
+        frame.bytes,
+        flash,
+        lent,
     );
-    put_answer(out, letter, answer, &reply, room, first(flash, len));
+    tell_answer(out, letter, answer, lent, flash);
     answer
 }
 
-// R address frame
-pub fn receive(out: &mut Output, f: Fields, setup: Setup, flash: &mut [u8]) -> State {
-    let answer = put_received(out, b'R', f, setup, flash);
-    out.put_end();
-    answer.state
-}
-
-// C address frame: the same, counted
-pub fn receive_counted(out: &mut Output, f: Fields, setup: Setup, flash: &mut [u8]) -> Setup {
-    let answer = put_received(out, b'C', f, setup, flash);
-    let outcome = answer.outcome;
-    let tally = counted(setup.tally, outcome);
-    put_tally(out, tally);
-    out.put_end();
-    setup.with_state(answer.state).with_tally(tally)
-}
-
-// I address
-pub fn read(out: &mut Output, f: Fields, setup: Setup, flash: &[u8]) -> State {
-    let n = f.numbers;
+// An I²C read, and its answer.
+fn read(out: &mut Output, address: u8, setup: &Setup, profile: Profile, flash: &[u8]) -> Answer {
     let mut reply = [UNTOUCHED; 512];
     let room = within(&reply, setup.room);
-    let lent = first(flash, setup.flashlen);
-    let answer = readout::read(
-        setup.profile,
-        setup.state,
-        byte(n[0]),
-        lent,
-        &mut reply[..room],
-    );
-    put_answer(out, b'I', answer, &reply, room, lent);
-    out.put_end();
-    answer.state
+    let lent = &mut reply[..room];
+    let answer = readout::read(profile, setup.state, address, flash, lent);
+    tell_answer(out, 'I', answer, lent, flash);
+    answer
+}
+
+// A board call, by its letter, with the lent flash.
+pub fn call_board(
+    out: &mut Output,
+    call: BoardCall<'_>,
+    setup: &mut Setup,
+    profile: Profile,
+    flash: &mut [u8],
+) {
+    match call {
+        BoardCall::Receive(frame) => {
+            setup.state = received(out, 'R', frame, setup, profile, flash).state;
+            out.tell(&"\n");
+        }
+        BoardCall::ReceiveCounted(frame) => {
+            let answer = received(out, 'C', frame, setup, profile, flash);
+            setup.state = answer.state;
+            setup.tally = counted(setup.tally, answer.outcome);
+            tell_tally(out, setup.tally);
+        }
+        BoardCall::Read { address } => {
+            setup.state = read(out, address, setup, profile, flash).state;
+            out.tell(&"\n");
+        }
+    }
 }

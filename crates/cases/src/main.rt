@@ -5,24 +5,20 @@
 
 mod boards;
 
-ghost use Rattle.std.specs.Prelude.{◌≤◌, length};
-
 use case_masters::call_master;
 use case_setup::answers::Output;
-use case_setup::fields::{Fields, fields_of};
-use case_setup::setup::{Setup, byte};
+use case_setup::lines::{BoardCall, Flash, Letter, Line, Strings, read_line};
+use case_setup::setup::Setup;
+use state::State;
 use std::alloc::Global;
-use std::io;
 use std::io::{BufReader, Eprint, Read as _, Stderr, Stdin};
-use text::part::first;
-use text::read::next_field;
+use std::{fmt, io};
+use text::part::within;
+use text::read::Fields;
 
-// What is to be said of a line.
+// What is wrong with a line.
 #[derive(Clone, Copy)]
-enum Said {
-    Good,
-    // nothing to say: an empty line, or one that begins with `#`
-    Nothing,
+enum Fault {
     // no letter that begins a line
     Unknown,
     // its fields are not those of its letter
@@ -33,231 +29,167 @@ enum Said {
     Long,
 }
 
-// A line that was read: how many bytes it has, and whether the file may have another.
-#[derive(Clone, Copy)]
-struct Read {
-    len: usize,
-    more: bool,
+impl fmt::Display for Fault {
+    fn fmt<W: fmt::Write>(&self, f: &mut fmt::Formatter<W>) -> fmt::Result {
+        f.write_str(match self {
+            Fault::Unknown => "no letter that begins a line",
+            Fault::Wrong => "its fields are not those of its letter",
+            Fault::Early => "no profile or no flash line before this call",
+            Fault::Long => "the next is too long, and the end of this run",
+        })
+    }
 }
 
-// The setup after a line, and whether there is more to read.
-#[derive(Clone, Copy)]
-struct Reached {
-    setup: Setup,
-    more: bool,
-}
-
-// The case file. A read that fails counts as its end, and the failure is kept until the end of the run.
+// The case file, and how it ended, once it has. A read that fails counts as its end, and the failure is kept until the end of the run.
 #[derive(Drop)]
 struct Input {
     reader: BufReader<Stdin>,
-    was_read: io::Result<()>,
+    end: Option<io::Result<()>>,
 }
 
 impl Input {
     fn new(alloc: Global, stdin: Stdin) -> io::Result<Self> {
         Ok(Self {
             reader: BufReader::new(alloc, stdin)?,
-            was_read: Ok(()),
+            end: None,
         })
     }
 
     // The next byte, unless the file is at its end.
     fn next_byte(&mut self) -> Option<u8> {
+        if self.end.is_some() {
+            return None;
+        }
         let mut one = [0u8; 1];
         match self.reader.read(&mut one) {
-            Ok(0) => None,
-            Ok(_) => Some(one[0]),
-            Err(e) => {
-                self.was_read = Err(e);
-                None
+            Ok(0) => self.end = Some(Ok(())),
+            Ok(_) => return Some(one[0]),
+            Err(e) => self.end = Some(Err(e)),
+        }
+        None
+    }
+
+    // The next line without its end; None at the end of the file. One that fills the lent bytes is too long.
+    fn next_line<'a>(&mut self, room: &'a mut [u8]) -> Result<Option<&'a [u8]>, Fault> {
+        for len in 0..room.len() {
+            match self.next_byte() {
+                Some(b'\n') => return Ok(Some(&room[..len])),
+                Some(byte) => room[len] = byte,
+                None if len == 0 => return Ok(None),
+                None => return Ok(Some(&room[..len])),
             }
         }
+        Err(Fault::Long)
     }
 }
 
-// What the program reads and writes.
+// What the lines work on: the answers, what was set, and the lent flash.
 #[derive(Drop)]
-struct Streams {
-    input: Input,
+struct Desk<'a> {
     output: Output,
-    errors: Stderr,
+    setup: Setup,
+    flash: &'a mut [u8],
 }
 
-impl Streams {
-    // Says whether all was read and written.
-    fn finish(self) -> io::Result<()> {
-        let Self {
-            input,
-            output,
-            errors: _,
-        } = self;
-        output.finish()?;
-        input.was_read
+impl Desk<'_> {
+    // The flash of a line.
+    fn fill(&mut self, flash: Flash) {
+        let mut next = flash.start;
+        for place in self.flash.iter_mut().take(flash.len) {
+            *place = next;
+            next = next.wrapping_add(flash.step);
+        }
+        self.setup.flash = Some(flash.len);
+    }
+
+    // A good line.
+    fn act(&mut self, line: Line<'_>) -> Result<(), Fault> {
+        match line {
+            Line::Profile(profile) => self.setup.profile = Some(profile),
+            Line::Flash(flash) => self.fill(flash),
+            Line::Fresh => self.setup.state = State::fresh(),
+            Line::State(state) => self.setup.state = state,
+            Line::Tally(tally) => self.setup.tally = tally,
+            Line::Room(room) => self.setup.room = room,
+            Line::Board(call) => return self.call_board(call),
+            Line::Master(call) => call_master(&mut self.output, call, self.setup.room),
+        }
+        Ok(())
+    }
+
+    // A call of the board, once there is one.
+    fn call_board(&mut self, call: BoardCall<'_>) -> Result<(), Fault> {
+        let (profile, len) = self.setup.board().ok_or(Fault::Early)?;
+        let len = within(self.flash, len);
+        let flash = &mut *self.flash;
+        boards::call_board(
+            &mut self.output,
+            call,
+            &mut self.setup,
+            profile,
+            &mut flash[..len],
+        );
+        Ok(())
+    }
+
+    // Any line. An empty one, and one that begins with `#`, says nothing.
+    fn one_line(&mut self, line: &[u8], strings: Strings<'_>) -> Result<(), Fault> {
+        if line.first().is_none_or(|b| *b == b'#') {
+            return Ok(());
+        }
+        let mut fields = Fields::new(line);
+        let Some([letter]) = fields.next_field() else {
+            return Err(Fault::Unknown);
+        };
+        let Ok(letter) = Letter::try_from(*letter) else {
+            return Err(Fault::Unknown);
+        };
+        if letter.needs_board() && self.setup.board().is_none() {
+            return Err(Fault::Early);
+        }
+        let line = read_line(letter, fields, strings).ok_or(Fault::Wrong)?;
+        self.act(line)
     }
 }
 
 // Says which line is bad, and why. The answers stand without it, so a failure here is let go.
-fn tell(errors: Stderr, line: u64, said: Said) {
-    let what = match said {
-        Said::Good | Said::Nothing => " is good",
-        Said::Unknown => ": no letter that begins a line",
-        Said::Wrong => ": its fields are not those of its letter",
-        Said::Early => ": no profile or no flash line before this call",
-        Said::Long => ": the next is too long, and the end of this run",
-    };
-    let _ = eprintln!(errors; "line {line}{what}");
-}
-
-// Byte i of a flash is a * i + b, modulo 256.
-fn fill(flash: &mut [u8], len: usize, a: usize, b: usize) {
-    let step = byte(a);
-    let mut next = byte(b);
-    for place in flash.iter_mut().take(len) {
-        *place = next;
-        next = next.wrapping_add(step);
-    }
-}
-
-// A good line: the setup after it.
-fn act(out: &mut Output, letter: u8, f: Fields, setup: Setup, flash: &mut [u8]) -> Setup {
-    let n = f.numbers;
-    match letter {
-        b'R' => setup.with_state(boards::receive(out, f, setup, flash)),
-        b'C' => boards::receive_counted(out, f, setup, flash),
-        b'I' => setup.with_state(boards::read(out, f, setup, flash)),
-        b'E' | b'D' | b'T' | b'V' | b'A' => {
-            call_master(out, letter, f, setup.room);
-            setup
-        }
-        b'F' => {
-            fill(flash, n[0], n[1], n[2]);
-            setup.after(letter, f)
-        }
-        _ => setup.after(letter, f),
-    }
-}
-
-// Whether a letter begins a line.
-fn is_letter(letter: u8) -> bool {
-    match letter {
-        b'P'
-        | b'F'
-        | b'Z'
-        | b'S'
-        | b'K'
-        | b'B'
-        | b'R'
-        | b'C'
-        | b'I'
-        | b'E'
-        | b'D'
-        | b'T'
-        | b'V'
-        | b'A' => true,
-        _ => false,
-    }
-}
-
-// The letter of a line. An empty line says as little as one that begins with `#`.
-fn letter_of(line: &[u8]) -> u8 {
-    if line.len() == 0 { b'#' } else { line[0] }
-}
-
-// What is to be said of a line with this letter, whose fields are good or not.
-fn judge(line: &[u8], letter: u8, good: bool, setup: Setup) -> Said {
-    if letter == b'#' {
-        return Said::Nothing;
-    }
-    if next_field(line, 0) != 1 || !is_letter(letter) {
-        return Said::Unknown;
-    }
-    if (letter == b'R' || letter == b'C' || letter == b'I') && !(setup.profiled && setup.flashed) {
-        return Said::Early;
-    }
-    if good { Said::Good } else { Said::Wrong }
-}
-
-// Any line, told if it is bad.
-fn one_line(
-    streams: &mut Streams,
-    number: u64,
-    line: &[u8],
-    setup: Setup,
-    flash: &mut [u8],
-) -> Setup {
-    let letter = letter_of(line);
-    let f = fields_of(letter, line);
-    let said = judge(line, letter, f.good, setup);
-    match said {
-        Said::Good => act(&mut streams.output, letter, f, setup, flash),
-        Said::Nothing => setup,
-        _ => {
-            tell(streams.errors, number, said);
-            setup
-        }
-    }
-}
-
-// Reads a line without its end. One that fills the lent bytes is too long.
-fn read_line(input: &mut Input, line: &mut [u8]) -> Read
-    ensures { result.len ≤ length line.old }
-{
-    for len in 0..line.len() {
-        match input.next_byte() {
-            None => return Read { len, more: false },
-            Some(b'\n') => return Read { len, more: true },
-            Some(b) => line[len] = b,
-        }
-    }
-    Read {
-        len: line.len(),
-        more: false,
-    }
-}
-
-// The next line, after so many.
-fn turn(
-    streams: &mut Streams,
-    number: u64,
-    line: &mut [u8],
-    setup: Setup,
-    flash: &mut [u8],
-) -> Reached {
-    let got = read_line(&mut streams.input, line);
-    if got.len == line.len() {
-        tell(streams.errors, number, Said::Long);
-        return Reached { setup, more: false };
-    }
-    let next = std::num::wrapping_add_u64(number, 1);
-    Reached {
-        setup: one_line(streams, next, first(line, got.len), setup, flash),
-        more: got.more,
-    }
+fn tell(errors: Stderr, line: u64, fault: Fault) {
+    let _ = eprintln!(errors; "line {line}: {fault}");
 }
 
 // All lines. Nothing says that the input ends, so they are counted up to a number that no file reaches.
-fn run(streams: &mut Streams, line: &mut [u8], flash: &mut [u8]) {
-    let mut now = Reached {
-        setup: Setup::start(),
-        more: true,
-    };
+fn run(input: &mut Input, desk: &mut Desk<'_>, errors: Stderr) {
+    let mut room = [0u8; 65536];
+    let mut first = [0u8; 600];
+    let mut second = [0u8; 600];
     for number in 0..u64::MAX {
-        if !now.more {
-            return;
+        let line = match input.next_line(&mut room) {
+            Ok(Some(line)) => line,
+            Ok(None) => return,
+            Err(fault) => {
+                tell(errors, number, fault);
+                return;
+            }
+        };
+        let strings = Strings {
+            first: &mut first,
+            second: &mut second,
+        };
+        if let Err(fault) = desk.one_line(line, strings) {
+            tell(errors, number + 1, fault);
         }
-        now = turn(streams, number, line, now.setup, flash);
     }
 }
 
 fn main(rt: HostRuntime) -> io::Result<()> {
-    let mut streams = Streams {
-        input: Input::new(rt.alloc(), rt.stdin())?,
-        output: Output::new(rt.alloc(), rt.stdout())?,
-        errors: rt.stderr(),
-    };
-    let mut line = [0u8; 65536];
+    let mut input = Input::new(rt.alloc(), rt.stdin())?;
     let mut flash = [0u8; 131072];
-    run(&mut streams, &mut line, &mut flash);
-    streams.finish()
+    let mut desk = Desk {
+        output: Output::new(rt.alloc(), rt.stdout())?,
+        setup: Setup::start(),
+        flash: &mut flash,
+    };
+    run(&mut input, &mut desk, rt.stderr());
+    desk.output.finish()?;
+    input.end.unwrap_or(Ok(()))
 }

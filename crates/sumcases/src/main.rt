@@ -3,7 +3,8 @@
 // Output: a line for each record, CRC-8 and CRC-16 in hexadecimal. A record that is cut ends the output.
 #![tactic(auto)]
 
-use byte_slices::number_at;
+ghost use Rattle.std.specs.Prelude.{◌<◌, length, IfSome};
+
 use std::alloc::Global;
 use std::io;
 use std::io::{BufWriter, Read, Write};
@@ -13,17 +14,19 @@ fn write_sums(out: &mut impl Write, bytes: &[u8]) -> io::Result<()> {
     writeln!(out, "{:02x} {:04x}", crc::crc8(bytes), crc::crc16(bytes))
 }
 
+// The bytes of the first record, and what follows it, if it is whole.
+fn first_record(input: &[u8]) -> Option<(&[u8], &[u8])>
+    ensures { IfSome result (λ r. length r.1.now < length input.now) }
+{
+    let (len, rest) = input.split_first_chunk::<2>()?;
+    rest.split_at_checked(usize::from(u16::from_be_bytes(*len)))
+}
+
 // The lines of all whole records.
-fn write_all_sums(out: &mut impl Write, input: &[u8]) -> io::Result<()> {
-    let mut at = 0;
-    while 2 <= input.len() - at {
-        let start = at + 2;
-        let len = number_at(input, at);
-        if input.len() - start < len {
-            return Ok(());
-        }
-        at = start + len;
-        write_sums(out, &input[start..at])?;
+fn write_all_sums(out: &mut impl Write, mut input: &[u8]) -> io::Result<()> {
+    while let Some((bytes, rest)) = first_record(input) {
+        write_sums(out, bytes)?;
+        input = rest;
     }
     Ok(())
 }

@@ -3,14 +3,16 @@ use Rattle.std.proofs.Common.{◌≡◌, ℕ, suc, ◌+◌, ◌-◌, ◌%◌, �
 use Rattle.std.proofs.Common.{set, take_all, take-suc-set, append-nil, length-drop, le-leb}
 use Rattle.std.specs.Prelude.{slice_range}
 use lib.Seq.{append_snoc}
-use Rattle.std.proofs.Common.{Option, Some, None, length, get_or, take, drop, sym, refl, ap, ◌∙◌, arith, length-take-le, add-one, drop-cons, drop_of_length-le, leb, leb-false}
+use Rattle.std.proofs.Common.{Option, Some, None, length, get_or, take, drop, sym, refl, ap, ◌∙◌, arith, length-take-le, add-one}
+use Rattle.std.proofs.Common.{drop-cons, drop_of_length-le, leb, leb-false}
 use Rattle.std.specs.Prelude.{is_some, ◌==◌, IfSome}
 use Rattle.std.specs.Option.{unwrap_or, option_map}
 use Rattle.std.specs.List.{list_all, position, position_or_len}
 use Rattle.std.proofs.lemmas.Grind.{common_steps}
 use Rattle.std.proofs.lemmas.List.Sums.{prefix_len-le-length}
 use Rattle.text.specs.Counts.{IsPrefixLen}
-use Rattle.text.specs.Read.{space, before, field_at, next_field, next_place, number_of, both, numbers_at, place_after, digit_of, extended, spelled, BytesRead, hex_right, hex_bytes, pair_value, is_dash}
+use Rattle.text.specs.Read.{space, before, field_at, next_field, next_place, number_of, both, numbers_at, place_after}
+use Rattle.text.specs.Read.{digit_of, extended, spelled, BytesRead, hex_right, hex_bytes, pair_value, is_dash}
 
 -- where a test passes first, or the length
 unwrap_cut : (a n : ℕ) → a ≤ n → unwrap_or (cond (ltb a n) (Some a) None) n ≡ a
@@ -153,7 +155,8 @@ numbers_wrong most s at n k xs all left e h =
     rw (left, wrong) at h
 
 -- one number further
-joined_next : (xs : List ℕ) (i v : ℕ) (ys : Option (List ℕ)) → i < length xs → joined (take i xs) (both (Some v) ys) ≡ joined (take (i + 1) (set xs i v)) ys
+joined_next : (xs : List ℕ) (i v : ℕ) (ys : Option (List ℕ)) → i < length xs
+    → joined (take i xs) (both (Some v) ys) ≡ joined (take (i + 1) (set xs i v)) ys
 joined_next xs i v None h = refl
 joined_next xs i v (Some ys) h = ap Some (sym (rw (add-one i, take-suc-set xs i v h) (append_snoc (take i xs) v ys)))
 
@@ -166,7 +169,8 @@ numbers_next most s s' at at' n k xs i v all left inside e same place h =
     rw (same, place) (sym (joined_next xs i v (numbers_at most s (next_place s at) k) inside) ∙ (rw (left, next) at h))
 
 -- and the place after it
-pub place_next : (s s' : List ℕ) (at at' n k r : ℕ) → n ≡ suc k → s' ≡ s → at' ≡ next_place s at → place_after s at n ≡ r → place_after s' at' k ≡ r
+pub place_next : (s s' : List ℕ) (at at' n k r : ℕ) → n ≡ suc k → s' ≡ s → at' ≡ next_place s at
+    → place_after s at n ≡ r → place_after s' at' k ≡ r
 unfolding place_after
 place_next s s' at at' n k r left same place h = rw (same, place) (rw left at h)
 

@@ -11,7 +11,8 @@ returns-in_err-value c =
 
 pub loop-c-preserved : goal.loop-c-preserved
 loop-c-preserved c =
-    let next = spelled_next c.args.most c.loop-c.value c.args.s.now c.loop-c.c-index c.in_ok-value.value (omega arith) (sym c.in_ok-value.ensures.value) in
+    let next =
+    spelled_next c.args.most c.loop-c.value c.args.s.now c.loop-c.c-index _ (omega arith) (sym c.in_ok-value.ensures.value) in
     (omega (arith, c.in_ok-value.ensures.small), sym next ∙ c.loop-c.invariant.1)
 
 pub returns : goal.returns
