@@ -3,12 +3,9 @@
 // The lines are listed by `help` and in docs/BENCH.md.
 #![tactic(auto)]
 
-ghost use Rattle.std.specs.Prelude.{◌≤◌, IfSome, length};
-
 use crate::run::{LONGEST_LINE, run_next_line};
-use bench_exchange::bench::Bench;
-use bench_memory::memory::{MEMORY, fill_flash};
-use bench_output::{Output, say};
+use bench_exchange::session::Session;
+use bench_output::Output;
 use bench_script::fields::is;
 use bench_script::image::opened;
 use bench_settings::shown::{status, tell_end};
@@ -20,75 +17,39 @@ use std::{fs, io};
 
 mod run;
 
+// The status of a script that cannot be read.
+const UNREAD: u8 = 2;
+
 // The most bytes of a path, and one more.
 const LONGEST_PATH: usize = 4096;
 
-// A new bench; the lines may be typed at a terminal.
-fn new_bench(output: &mut Output, input: &impl IsTerminal) -> Bench {
-    let typed = input.is_terminal();
-    if typed {
-        say(output, b"  help lists the lines, quit ends\n");
-    }
-    Bench::new(typed)
-}
-
-// The whole script; its status.
+// The whole script, whose lines may be typed at a terminal; its status.
 fn run_script(
-    output: &mut Output,
+    session: &mut Session,
     files: &impl Files,
     input: &mut (impl io::Read + IsTerminal),
-    line: &mut [u8],
-    memory: &mut [u8],
-) -> usize {
-    let mut d = new_bench(output, input);
-    let mut turns = u64::MAX;
-    while 0 < turns && !d.ended && output.is_fine() {
-        d = run_next_line(output, files, d, input, line, memory);
-        turns -= 1;
+) -> u8 {
+    session.bench.typed = input.is_terminal();
+    if session.bench.typed {
+        session.output.say("  help lists the lines, quit ends\n");
     }
-    tell_end(output, d);
-    status(d)
-}
-
-// A new bench: erased flash, and nothing rewritten.
-fn start_with(
-    output: &mut Output,
-    files: &impl Files,
-    input: &mut (impl io::Read + IsTerminal),
-    memory: &mut [u8],
-) -> usize {
     let mut line = [0u8; LONGEST_LINE];
-    fill_flash(memory, 0xff);
-    run_script(output, files, input, &mut line, memory)
+    for _ in 0..u64::MAX {
+        if session.bench.ended || !session.output.is_fine() {
+            break;
+        }
+        run_next_line(session, files, input, &mut line);
+    }
+    tell_end(&mut session.output, &session.bench);
+    status(&session.bench)
 }
 
-// Lends the memory. It comes as a parameter, since the proof then has its length from its type, and need not count so many bytes.
-fn start_in(
-    output: &mut Output,
-    files: &impl Files,
-    input: &mut (impl io::Read + IsTerminal),
-    mut memory: [u8; MEMORY],
-) -> usize {
-    start_with(output, files, input, &mut memory)
-}
-
-// Answers the script's status.
-fn start(
-    output: &mut Output,
-    files: &impl Files,
-    input: &mut (impl io::Read + IsTerminal),
-) -> usize {
-    start_in(output, files, input, [0u8; MEMORY])
-}
-
-// The length of the argument at a place, which is put at the start of `path`, if there is one. One that is too long counts as empty: no
-// file has either name.
-fn argument(env: &impl Env, at: usize, path: &mut [u8]) -> Option<usize>
-    ensures { IfSome result (λ n. n ≤ length path.new) }
-{
+// The argument at a place, which is put at the start of `path`, if there is one. One that is too long counts as empty: no file has
+// either name.
+fn argument<'a>(env: &impl Env, at: usize, path: &'a mut [u8]) -> Option<&'a [u8]> {
     match env.arg(at, path) {
-        Ok(n) => Some(n),
-        Err(FillError::TooLong) => Some(0),
+        Ok(n) => path.get(..n),
+        Err(FillError::TooLong) => Some(&[]),
         Err(FillError::NotPresent) => None,
     }
 }
@@ -102,54 +63,48 @@ fn created<F: Files>(files: &F, name: &[u8]) -> io::Result<F::File> {
 }
 
 // Writes the status to the file that the argument at a place names, if there is one.
-fn write_status(output: &mut Output, rt: &(impl Env + Files), at: usize, status: usize) {
+fn write_status(output: &mut Output, rt: &(impl Env + Files), at: usize, status: u8) {
     let mut path = [0u8; LONGEST_PATH];
-    let Some(n) = argument(rt, at, &mut path) else {
+    let Some(name) = argument(rt, at, &mut path) else {
         return;
     };
-    let Ok(mut file) = created(rt, &path[0..n]) else {
-        say(output, b"the status cannot be written\n");
-        return;
+    let Ok(mut file) = created(rt, name) else {
+        return output.say("the status cannot be written\n");
     };
     let done = write!(file, "{status}");
     output.note(done);
 }
 
-// The script in a file; its status, 2 if it cannot be read.
-fn start_file(output: &mut Output, files: &impl Files<File = File>, path: &[u8]) -> usize {
-    let Ok(mut file) = opened(files, path) else {
-        say(output, b"the script ");
-        say(output, path);
-        say(output, b" cannot be opened\n");
-        return 2;
-    };
-    start(output, files, &mut file)
+// The script in a file; its status.
+fn run_file(session: &mut Session, files: &impl Files<File = File>, path: &[u8]) -> u8 {
+    match opened(files, path) {
+        Ok(mut file) => run_script(session, files, &mut file),
+        Err(_) => {
+            session.output.say("the script ");
+            session.output.say_raw(path);
+            session.output.say(" cannot be opened\n");
+            UNREAD
+        }
+    }
 }
 
 // The script that the first argument names; `-` or none is standard input.
-fn start_named(
-    output: &mut Output,
-    rt: &(impl Env + Files<File = File>),
-    mut stdin: Stdin,
-) -> usize {
+fn run_named(session: &mut Session, rt: &(impl Env + Files<File = File>), mut stdin: Stdin) -> u8 {
     let mut path = [0u8; LONGEST_PATH];
-    let Some(n) = argument(rt, 1, &mut path) else {
-        return start(output, rt, &mut stdin);
-    };
-    if is(&path[0..n], b"-") {
-        return start(output, rt, &mut stdin);
+    match argument(rt, 1, &mut path) {
+        Some(name) if !is(name, "-") => run_file(session, rt, name),
+        _ => run_script(session, rt, &mut stdin),
     }
-    start_file(output, rt, &path[0..n])
 }
 
 // The status of a program that a signal ends because nobody reads what it writes, as a shell tells it.
 const NOT_READ: u8 = 141;
 
 fn main(rt: HostRuntime) -> io::Result<ExitCode> {
-    let mut output = Output::new(rt.stdout());
-    let status = start_named(&mut output, &rt, rt.stdin());
-    write_status(&mut output, &rt, 2, status);
-    match output.finish() {
+    let mut session = Session::new(rt.alloc(), Output::new(rt.stdout()))?;
+    let status = run_named(&mut session, &rt, rt.stdin());
+    write_status(&mut session.output, &rt, 2, status);
+    match session.finish() {
         Ok(()) => Ok(ExitCode::SUCCESS),
         Err(e) if e.kind() == ErrorKind::BrokenPipe => Ok(ExitCode::from(NOT_READ)),
         Err(e) => Err(e),

@@ -25,10 +25,10 @@ pub struct Memory {
     image: Vec<u8>,
 }
 
-// Copies as many bytes as both have.
+// Copies bytes to a place of the same length.
 pub(crate) fn copy(to: &mut [u8], from: &[u8]) {
-    for (new, old) in to.iter_mut().zip(from) {
-        *new = *old;
+    if to.len() == from.len() {
+        to.copy_from_slice(from);
     }
 }
 
@@ -103,8 +103,8 @@ impl Memory {
 
     // The first n bytes of the image are put into the flash, from its first byte on; the map begins anew.
     pub fn load_flash(&mut self, n: usize) {
-        if let Some(bytes) = self.image.get(..n) {
-            copy(&mut self.flash, bytes);
+        if n <= self.image.len() && n <= self.flash.len() {
+            copy(&mut self.flash[..n], &self.image[..n]);
         }
         self.restart_map();
     }

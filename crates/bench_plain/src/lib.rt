@@ -1,66 +1,47 @@
 // Lines of one word by which the master makes a request: commands without arguments, the general calls, and `reset-running`.
 #![tactic(auto)]
 
-use bench_exchange::bench::{Bench, FIRST_ADDRESS};
-use bench_exchange::requests::{command, general, request};
-use bench_output::{Output, tell};
-use bench_script::fields::is_end;
+use bench_exchange::bench::FIRST_ADDRESS;
+use bench_exchange::session::Session;
+use bench_script::fields::end;
 use bench_words::PlainWord;
 use rules::requests::Request;
 
 mod running;
 
 // A command without arguments.
-fn plain(output: &mut Output, d: Bench, code: usize, memory: &mut [u8]) -> Bench {
-    let asked = command(d, code, 0, true);
-    let done = request(output, d, Request::Plain(code), asked, 0, 0, memory);
-    done.bench
+fn plain(session: &mut Session, code: usize) {
+    session.request(Request::Plain(code), true, 0..0);
 }
 
 // After a general call the master sends to the default range again.
-pub(crate) fn after_general(output: &mut Output, d: Bench) -> Bench {
-    if d.to != FIRST_ADDRESS {
-        tell(
-            output,
-            b"  the master sends to % from now on\n",
-            FIRST_ADDRESS,
-        );
+pub(crate) fn after_general(session: &mut Session) {
+    if session.bench.to != FIRST_ADDRESS {
+        session.follow(FIRST_ADDRESS);
     }
-    d.sending_to(FIRST_ADDRESS)
 }
 
 // The two general calls.
-fn reset(output: &mut Output, d: Bench, r: Request, memory: &mut [u8]) -> Bench {
-    let done = request(output, d, r, general(d), 0, 0, memory);
-    after_general(output, done.bench)
-}
-
-// A line of one word.
-fn run_word(output: &mut Output, d: Bench, word: PlainWord, memory: &mut [u8]) -> Bench {
-    match word {
-        PlainWord::Version => plain(output, d, 0x00, memory),
-        PlainWord::Info => plain(output, d, 0x03, memory),
-        PlainWord::Serial => plain(output, d, 0x04, memory),
-        PlainWord::Revision => plain(output, d, 0x09, memory),
-        PlainWord::Longest => plain(output, d, 0x0c, memory),
-        PlainWord::Finalize => plain(output, d, 0x07, memory),
-        PlainWord::Start => plain(output, d, 0x05, memory),
-        PlainWord::Reset => reset(output, d, Request::Reset, memory),
-        PlainWord::ResetAddress => reset(output, d, Request::ResetAddress, memory),
-        PlainWord::ResetRunning => running::run_reset(output, d, memory),
-    }
+fn reset(session: &mut Session, r: Request) {
+    session.request(r, true, 0..0);
+    after_general(session);
 }
 
 // A line of one word, after which nothing may follow.
-pub fn run_line(
-    output: &mut Output,
-    d: Bench,
-    word: PlainWord,
-    s: &[u8],
-    memory: &mut [u8],
-) -> Bench {
-    if !is_end(output, s) {
-        return d.refused(output, b"nothing after this word");
+pub fn run_line(session: &mut Session, word: PlainWord, s: &[u8]) {
+    if end(&mut session.output, s).is_err() {
+        return session.refuse("nothing after this word");
     }
-    run_word(output, d, word, memory)
+    match word {
+        PlainWord::Version => plain(session, 0x00),
+        PlainWord::Info => plain(session, 0x03),
+        PlainWord::Serial => plain(session, 0x04),
+        PlainWord::Revision => plain(session, 0x09),
+        PlainWord::Longest => plain(session, 0x0c),
+        PlainWord::Finalize => plain(session, 0x07),
+        PlainWord::Start => plain(session, 0x05),
+        PlainWord::Reset => reset(session, Request::Reset),
+        PlainWord::ResetAddress => reset(session, Request::ResetAddress),
+        PlainWord::ResetRunning => running::reset_running(session),
+    }
 }

@@ -3,12 +3,11 @@ ghost use Rattle.std.specs.Prelude.{◌<◌};
 
 use crate::shown::show_profile;
 use bench_alarms::alarm::tell_lost;
-use bench_exchange::bench::{Bench, default_profile};
-use bench_exchange::requests::lost_with_board;
-use bench_memory::memory::restart_map;
+use bench_exchange::bench::default_profile;
+use bench_exchange::session::Session;
 use bench_memory::pages::page_size;
 use bench_output::Output;
-use bench_script::fields::{Parsed, fault, first, hex, is, number, rest, second};
+use bench_script::fields::{Fault, first, hex, is, number, rest, tell_fault};
 use profile::Profile;
 use rules::kinds::Bus;
 use state::State;
@@ -20,274 +19,152 @@ enum Field {
     Page,
     Size,
     Offset,
-    Byte(ByteField),
-    Serial,
-    Unknown,
-}
-
-#[derive(Clone, Copy)]
-enum ByteField {
     Hardware,
     Compatible,
     Actual,
     Version,
+    Serial,
 }
 
-// The field with this name.
-fn field_named(name: &[u8]) -> Field {
-    if is(name, b"M") {
-        return Field::Longest;
-    }
-    if is(name, b"page") {
-        return Field::Page;
-    }
-    if is(name, b"S") {
-        return Field::Size;
-    }
-    if is(name, b"O") {
-        return Field::Offset;
-    }
-    if is(name, b"type") {
-        return Field::Byte(ByteField::Hardware);
-    }
-    if is(name, b"compatible") {
-        return Field::Byte(ByteField::Compatible);
-    }
-    if is(name, b"actual") {
-        return Field::Byte(ByteField::Actual);
-    }
-    if is(name, b"bootloader") {
-        return Field::Byte(ByteField::Version);
-    }
-    if is(name, b"serial") {
-        return Field::Serial;
-    }
-    Field::Unknown
+const FIELDS: [(&str, Field); 9] = [
+    ("M", Field::Longest),
+    ("page", Field::Page),
+    ("S", Field::Size),
+    ("O", Field::Offset),
+    ("type", Field::Hardware),
+    ("compatible", Field::Compatible),
+    ("actual", Field::Actual),
+    ("bootloader", Field::Version),
+    ("serial", Field::Serial),
+];
+
+// The most names of one line that are read.
+const NAMES: usize = 100;
+
+// The field with this name, and its name as it is written there.
+fn field_named(name: &[u8]) -> Option<Field> {
+    FIELDS.iter().find(|f| is(name, f.0)).map(|f| f.1)
 }
 
-// A profile so far, and whether the line was understood up to here.
-#[derive(Clone, Copy)]
-struct Described {
-    profile: Profile,
-    fine: bool,
-}
-
-fn wrong(p: Profile) -> Described {
-    Described {
-        profile: p,
-        fine: false,
-    }
-}
-
-fn right(p: Profile) -> Described {
-    Described {
-        profile: p,
-        fine: true,
-    }
-}
-
-fn unknown(output: &mut Output, p: Profile, name: &[u8]) -> Described {
-    fault(
-        output,
-        b"board",
-        name,
-        b": a board has nothing of that name\n",
-        0,
-    );
-    wrong(p)
-}
-
-fn with_serial(output: &mut Output, mut p: Profile, value: &[u8]) -> Described {
-    let mut bytes = [0u8; 16];
-    let got = hex(output, b"serial", value, &mut bytes);
-    let Parsed::Value(n) = got else {
-        return wrong(p);
-    };
-    p.serial = bytes;
-    p.seriallen = n;
-    right(p)
-}
-
-fn with_longest(output: &mut Output, mut p: Profile, value: &[u8]) -> Described {
-    let got = number(output, b"M", value, 32, State::LARGEST_FRAME);
-    let Parsed::Value(n) = got else {
-        return wrong(p);
-    };
-    p.longest = n;
-    right(p)
+fn set_serial(output: &mut Output, p: &mut Profile, value: &[u8]) -> Result<(), Fault> {
+    let mut serial = [0u8; 16];
+    p.seriallen = hex(output, "serial", value, &mut serial)?;
+    p.serial = serial;
+    Ok(())
 }
 
 // The page, of which S and O so far are multiples.
-fn with_page(output: &mut Output, mut p: Profile, value: &[u8]) -> Described {
-    let got = number(output, b"page", value, 0, 1000000);
-    let Parsed::Value(n) = got else {
-        return wrong(p);
-    };
-    if n != State::SMALLEST_PAGE && n != State::LARGEST_PAGE {
-        fault(output, b"page", value, b": 64 or 128\n", 0);
-        return wrong(p);
+fn set_page(output: &mut Output, p: &mut Profile, value: &[u8]) -> Result<(), Fault> {
+    let page = number(output, "page", value, 0, 1000000)?;
+    if page != State::SMALLEST_PAGE && page != State::LARGEST_PAGE {
+        return Err(tell_fault(output, "page", value, ": 64 or 128\n"));
     }
-    p.page = n;
-    let page = page_size(p);
     if p.size % page != 0 {
-        fault(
-            output,
-            b"page",
-            value,
-            b": S % is no multiple of it\n",
-            p.size,
-        );
-        return wrong(p);
+        let reason = format_args!(": S {} is no multiple of it\n", p.size);
+        return Err(tell_fault(output, "page", value, reason));
     }
     if p.offset % page != 0 {
-        fault(
-            output,
-            b"page",
-            value,
-            b": O % is no multiple of it\n",
-            p.offset,
-        );
-        return wrong(p);
+        let reason = format_args!(": O {} is no multiple of it\n", p.offset);
+        return Err(tell_fault(output, "page", value, reason));
     }
-    right(p)
+    p.page = page;
+    Ok(())
 }
 
 // S or O: a number of whole pages.
-fn paged(output: &mut Output, name: &[u8], value: &[u8], least: usize, page: usize) -> Parsed
+fn paged(
+    output: &mut Output,
+    name: &str,
+    value: &[u8],
+    least: usize,
+    page: usize,
+) -> Result<usize, Fault>
     requires { 0 < page }
 {
-    let got = number(output, name, value, least, State::LARGEST_FLASH);
-    let Parsed::Value(n) = got else {
-        return got;
-    };
+    let n = number(output, name, value, least, State::LARGEST_FLASH)?;
     if n % page != 0 {
-        return fault(output, name, value, b": a multiple of %\n", page);
+        let reason = format_args!(": a multiple of {page}\n");
+        return Err(tell_fault(output, name, value, reason));
     }
-    got
+    Ok(n)
 }
 
-fn with_size(output: &mut Output, mut p: Profile, value: &[u8]) -> Described {
-    let page = page_size(p);
-    let got = paged(output, b"S", value, page, page);
-    let Parsed::Value(n) = got else {
-        return wrong(p);
-    };
-    p.size = n;
-    right(p)
+// A number of one byte.
+fn byte(output: &mut Output, name: &str, value: &[u8], least: usize) -> Result<u8, Fault> {
+    let n = number(output, name, value, least, 255)?;
+    Ok((n % 256) as u8)
 }
 
-fn with_offset(output: &mut Output, mut p: Profile, value: &[u8]) -> Described {
-    let got = paged(output, b"O", value, 0, page_size(p));
-    let Parsed::Value(n) = got else {
-        return wrong(p);
-    };
-    p.offset = n;
-    right(p)
-}
-
-// The least value of a field of one byte: a hardware type is not 0.
-fn least_byte(field: ByteField) -> usize {
-    match field {
-        ByteField::Hardware => 1,
-        _ => 0,
-    }
-}
-
-// Type, compatible and actual revision, bootloader version.
-fn with_byte(
+// One field; `name` is how the line writes it. A hardware type is not 0.
+fn set_field(
     output: &mut Output,
-    mut p: Profile,
-    field: ByteField,
-    name: &[u8],
+    p: &mut Profile,
+    field: Field,
+    name: &str,
     value: &[u8],
-) -> Described {
-    let byte = number(output, name, value, least_byte(field), 255);
-    let Parsed::Value(n) = byte else {
-        return wrong(p);
-    };
-    let b = (n % 256) as u8;
+) -> Result<(), Fault> {
+    let page = page_size(*p);
     match field {
-        ByteField::Hardware => p.hardware = b,
-        ByteField::Compatible => p.compatible = b,
-        ByteField::Actual => p.actual = b,
-        ByteField::Version => p.version = b,
+        Field::Longest => p.longest = number(output, "M", value, 32, State::LARGEST_FRAME)?,
+        Field::Page => set_page(output, p, value)?,
+        Field::Size => p.size = paged(output, "S", value, page, page)?,
+        Field::Offset => p.offset = paged(output, "O", value, 0, page)?,
+        Field::Hardware => p.hardware = byte(output, name, value, 1)?,
+        Field::Compatible => p.compatible = byte(output, name, value, 0)?,
+        Field::Actual => p.actual = byte(output, name, value, 0)?,
+        Field::Version => p.version = byte(output, name, value, 0)?,
+        Field::Serial => set_serial(output, p, value)?,
     }
-    right(p)
+    Ok(())
 }
 
 // One name with its value.
-fn with(output: &mut Output, p: Profile, name: &[u8], value: &[u8]) -> Described {
-    let field = field_named(name);
-    match field {
-        Field::Longest => with_longest(output, p, value),
-        Field::Page => with_page(output, p, value),
-        Field::Size => with_size(output, p, value),
-        Field::Offset => with_offset(output, p, value),
-        Field::Byte(f) => with_byte(output, p, f, name, value),
-        Field::Serial => with_serial(output, p, value),
-        Field::Unknown => unknown(output, p, name),
+fn set_named(output: &mut Output, p: &mut Profile, name: &[u8], value: &[u8]) -> Result<(), Fault> {
+    match (field_named(name), str::from_utf8(name)) {
+        (Some(field), Ok(text)) => set_field(output, p, field, text, value),
+        _ => Err(tell_fault(
+            output,
+            "board",
+            name,
+            ": a board has nothing of that name\n",
+        )),
     }
-}
-
-// The field at a place; empty past the end.
-fn field_at<'a>(s: &'a [u8], at: usize) -> &'a [u8] {
-    if s.len() <= at {
-        return &s[0..0];
-    }
-    first(&s[at..])
-}
-
-// The place of the field behind the one at a place, or the end.
-fn field_after(s: &[u8], at: usize) -> usize {
-    if s.len() <= at {
-        return s.len();
-    }
-    at + second(&s[at..])
 }
 
 // All names with their values.
-fn with_all(output: &mut Output, p: Profile, s: &[u8]) -> Described {
-    let mut d = right(p);
-    let mut at = 0;
-    let mut turns = 100usize;
-    while 0 < turns {
-        turns -= 1;
-        if !d.fine || s.len() <= at {
-            return d;
+fn described(output: &mut Output, mut p: Profile, s: &[u8]) -> Result<Profile, Fault> {
+    let mut left = s;
+    for _ in 0..NAMES {
+        if left.is_empty() {
+            return Ok(p);
         }
-        let value = field_after(s, at);
-        d = with(output, d.profile, field_at(s, at), field_at(s, value));
-        at = field_after(s, value);
+        let value = rest(left);
+        set_named(output, &mut p, first(left), first(value))?;
+        left = rest(value);
     }
-    d
+    Ok(p)
 }
 
 // The bus in front, then the rest.
-fn on_bus(output: &mut Output, s: &[u8]) -> Described {
-    if is(first(s), b"i2c") {
-        return with_all(output, default_profile(Bus::I2c), rest(s));
+fn on_bus(output: &mut Output, s: &[u8]) -> Result<Profile, Fault> {
+    let name = first(s);
+    if is(name, "i2c") {
+        return described(output, default_profile(Bus::I2c), rest(s));
     }
-    if is(first(s), b"rs485") {
-        return with_all(output, default_profile(Bus::Rs485), rest(s));
+    if is(name, "rs485") {
+        return described(output, default_profile(Bus::Rs485), rest(s));
     }
-    fault(output, b"board", first(s), b": i2c or rs485 follows\n", 0);
-    wrong(default_profile(Bus::I2c))
+    Err(tell_fault(output, "board", name, ": i2c or rs485 follows\n"))
 }
 
 // `board BUS NAME VALUE ..`
-pub(crate) fn set_board(output: &mut Output, d: Bench, s: &[u8], memory: &mut [u8]) -> Bench {
-    let got = on_bus(output, s);
-    if !got.fine {
-        return d.refused(
-            output,
-            b"board i2c or board rs485, then any of M n, page n, S n, O n, type n, compatible n, actual n, bootloader n, serial HEX",
+pub(crate) fn set_board(session: &mut Session, s: &[u8]) {
+    let Ok(p) = on_bus(&mut session.output, s) else {
+        return session.refuse(
+            "board i2c or board rs485, then any of M n, page n, S n, O n, type n, compatible n, actual n, bootloader n, serial HEX",
         );
-    }
-    let p = got.profile;
-    let fresh = d.with_board(p);
-    let lost = lost_with_board(d, fresh, memory);
-    show_profile(output, p);
-    tell_lost(output, lost);
-    restart_map(memory);
-    fresh.losing(lost)
+    };
+    show_profile(&mut session.output, &p);
+    let lost = session.exchange_board(p);
+    tell_lost(&mut session.output, lost);
 }

@@ -1,223 +1,153 @@
 // Lines that set the bench up: the board, the flash, where the master sends to, damage, and the application.
 use crate::boards;
 use bench_alarms::alarm::tell_left_waiting;
-use bench_exchange::bench::{Bench, Damage};
-use bench_exchange::requests::waiting;
-use bench_memory::memory;
-use bench_output::{Output, say, say_byte, say_count, tell};
-use bench_script::fields::{Parsed, fault, first, hex_byte, is, is_end, number, rest};
-use bench_script::image::{DataKind, data_kind};
+use bench_exchange::bench::Damage;
+use bench_exchange::session::Session;
+use bench_output::Output;
+use bench_script::fields::{Fault, end, first, hex_byte, is, number, rest, tell_fault};
 use bench_words::SetupWord;
 use std::fs::Files;
 
 // `flash fill BYTE`
-fn flash_fill(output: &mut Output, d: Bench, value: &[u8], memory: &mut [u8]) -> Bench {
-    let byte = hex_byte(output, b"fill", value);
-    let Parsed::Value(b) = byte else {
-        return d.refused(
-            output,
-            b"flash fill BYTE: the byte in two hexadecimal digits, as ff",
-        );
+fn flash_fill(session: &mut Session, value: &[u8]) {
+    let Ok(byte) = hex_byte(&mut session.output, "fill", value) else {
+        return session.refuse("flash fill BYTE: the byte in two hexadecimal digits, as ff");
     };
-    memory::fill_flash(memory, (b % 256) as u8);
-    say(output, b"  every byte of flash is ");
-    say_byte(output, (b % 256) as u8);
-    say(output, b"\n");
-    tell_left_waiting(output, waiting(d));
-    d
+    session.memory.fill_flash(byte);
+    session
+        .output
+        .tell(format_args!("  every byte of flash is {byte:02x}\n"));
+    tell_left_waiting(&mut session.output, session.bench.waiting());
 }
 
 // `flash file NAME`; bytes behind the file's stay.
-fn flash_file(
-    output: &mut Output,
-    files: &impl Files,
-    d: Bench,
-    name: &[u8],
-    memory: &mut [u8],
-) -> Bench {
-    let got = memory::load_file(output, files, name, memory);
-    let Parsed::Value(n) = got else {
-        return d.refused_data(
-            output,
-            got,
-            b"flash file NAME: a file that can be read, at most 131072 bytes",
-        );
-    };
-    memory::load_flash(memory, n);
-    tell(output, b"  bytes of flash as in the file: %\n", n);
-    tell_left_waiting(output, waiting(d));
-    d
-}
-
-fn flash_wrong(output: &mut Output, d: Bench, word: &[u8]) -> Bench {
-    fault(output, b"flash", word, b": fill or file follows\n", 0);
-    d.refused(output, b"flash fill BYTE, or flash file NAME")
-}
-
-fn set_flash(
-    output: &mut Output,
-    files: &impl Files,
-    d: Bench,
-    s: &[u8],
-    memory: &mut [u8],
-) -> Bench {
-    let kind = data_kind(first(s));
-    match kind {
-        DataKind::Fill => flash_fill(output, d, rest(s), memory),
-        DataKind::File => flash_file(output, files, d, rest(s), memory),
-        DataKind::Digits => flash_wrong(output, d, first(s)),
+fn flash_file(session: &mut Session, files: &impl Files, name: &[u8]) {
+    match session.load_file(files, name) {
+        Ok(n) => {
+            session.memory.load_flash(n);
+            session
+                .output
+                .tell(format_args!("  bytes of flash as in the file: {n}\n"));
+            tell_left_waiting(&mut session.output, session.bench.waiting());
+        }
+        Err(fault) => session.refuse_for(
+            fault,
+            "flash file NAME: a file that can be read, at most 131072 bytes",
+        ),
     }
+}
+
+fn set_flash(session: &mut Session, files: &impl Files, s: &[u8]) {
+    let kind = first(s);
+    if is(kind, "fill") {
+        return flash_fill(session, rest(s));
+    }
+    if is(kind, "file") {
+        return flash_file(session, files, rest(s));
+    }
+    tell_fault(
+        &mut session.output,
+        "flash",
+        kind,
+        ": fill or file follows\n",
+    );
+    session.refuse("flash fill BYTE, or flash file NAME");
 }
 
 // `to ADDRESS`
-fn set_destination(output: &mut Output, d: Bench, s: &[u8]) -> Bench {
-    let address = number(output, b"to", s, 0, 255);
-    let Parsed::Value(a) = address else {
-        return d.refused(output, b"to ADDRESS: a number to 255");
+fn set_destination(session: &mut Session, s: &[u8]) {
+    let Ok(to) = number(&mut session.output, "to", s, 0, 255) else {
+        return session.refuse("to ADDRESS: a number to 255");
     };
-    tell(output, b"  the master sends to %\n", a);
-    d.sending_to(a)
+    session
+        .output
+        .tell(format_args!("  the master sends to {to}\n"));
+    session.bench.to = to;
 }
 
 // What follows `damage byte` or `damage reply`, which is `name`: `N`, or `N after K`.
-fn read_damage(output: &mut Output, name: &[u8], s: &[u8]) -> Damage {
-    let count = number(output, name, first(s), 1, 300);
-    let Parsed::Value(byte) = count else {
-        return Damage::none();
-    };
+fn damage_named(output: &mut Output, name: &str, s: &[u8]) -> Result<Damage, Fault> {
+    let byte = number(output, name, first(s), 1, 300)?;
     let more = rest(s);
-    if more.len() == 0 {
-        return Damage { byte, after: 0 };
+    if more.is_empty() {
+        return Ok(Damage { byte, after: 0 });
     }
-    if !is(first(more), b"after") {
-        fault(
-            output,
-            name,
-            more,
-            b": only the word after and a number may follow\n",
-            0,
-        );
-        return Damage::none();
+    if !is(first(more), "after") {
+        let reason = ": only the word after and a number may follow\n";
+        return Err(tell_fault(output, name, more, reason));
     }
-    let passing = number(output, b"after", rest(more), 0, 10000);
-    let Parsed::Value(after) = passing else {
-        return Damage::none();
-    };
-    Damage { byte, after }
+    let after = number(output, "after", rest(more), 0, 10000)?;
+    Ok(Damage { byte, after })
 }
 
-// Says which byte will be damaged, and how many frames or replies pass before that.
-fn tell_damage(output: &mut Output, hit: Damage, text: &[u8]) {
-    tell(output, text, hit.byte);
+// The same, said: which byte of the next frame or reply will be damaged, and how many pass before that.
+fn told_damage(output: &mut Output, name: &str, thing: &str, s: &[u8]) -> Result<Damage, Fault> {
+    let hit = damage_named(output, name, s)?;
+    let byte = hit.byte;
+    output.tell(format_args!("  byte {byte} of the next {thing} will be damaged on its way"));
     if 0 < hit.after {
-        say(output, b", after ");
-        say_count(output, hit.after, b"other");
+        output.say(", after ");
+        output.say_count(hit.after, "other");
     }
-    say(output, b"\n");
+    output.say("\n");
+    Ok(hit)
 }
 
-// `damage byte N`
-fn damage_frame(output: &mut Output, d: Bench, s: &[u8]) -> Bench {
-    let hit = read_damage(output, b"byte", s);
-    if hit.byte == 0 {
-        return damage_wrong(output, d);
+// `damage byte N` or `damage reply N`
+fn damage_from(session: &mut Session, s: &[u8]) -> Result<(), Fault> {
+    let kind = first(s);
+    if is(kind, "byte") {
+        let hit = told_damage(&mut session.output, "byte", "frame", rest(s))?;
+        session.bench.frame = Some(hit);
+        return Ok(());
     }
-    tell_damage(
-        output,
-        hit,
-        b"  byte % of the next frame will be damaged on its way",
-    );
-    d.with_frame_damage(hit)
+    if is(kind, "reply") {
+        let hit = told_damage(&mut session.output, "reply", "reply", rest(s))?;
+        session.bench.reply = Some(hit);
+        return Ok(());
+    }
+    let reason = ": byte or reply follows\n";
+    Err(tell_fault(&mut session.output, "damage", kind, reason))
 }
 
-// `damage reply N`
-fn damage_reply(output: &mut Output, d: Bench, s: &[u8]) -> Bench {
-    let hit = read_damage(output, b"reply", s);
-    if hit.byte == 0 {
-        return damage_wrong(output, d);
+fn set_damage(session: &mut Session, s: &[u8]) {
+    if damage_from(session, s).is_err() {
+        session.refuse(
+            "damage byte N or damage reply N, and then perhaps after K: the first byte is 1, and K frames or replies pass first",
+        );
     }
-    tell_damage(
-        output,
-        hit,
-        b"  byte % of the next reply will be damaged on its way",
-    );
-    d.with_reply_damage(hit)
 }
 
-fn damage_wrong(output: &mut Output, d: Bench) -> Bench {
-    d.refused(
-        output,
-        b"damage byte N or damage reply N, and then perhaps after K: the first byte is 1, and K frames or replies pass first",
-    )
+// What follows `application`: whether it answers.
+fn application_from(output: &mut Output, s: &[u8]) -> Result<bool, Fault> {
+    let kind = first(s);
+    let answers = is(kind, "answers");
+    if !answers && !is(kind, "silent") {
+        return Err(tell_fault(output, "application", kind, ": answers or silent follows\n"));
+    }
+    end(output, rest(s))?;
+    Ok(answers)
 }
 
-fn set_damage(output: &mut Output, d: Bench, s: &[u8]) -> Bench {
-    if is(first(s), b"byte") {
-        return damage_frame(output, d, rest(s));
-    }
-    if is(first(s), b"reply") {
-        return damage_reply(output, d, rest(s));
-    }
-    fault(output, b"damage", first(s), b": byte or reply follows\n", 0);
-    damage_wrong(output, d)
-}
-
-fn application_wrong(output: &mut Output, d: Bench) -> Bench {
-    d.refused(output, b"application answers, or application silent")
-}
-
-// `application answers`, after which nothing may follow.
-fn application_answers(output: &mut Output, d: Bench, more: &[u8]) -> Bench {
-    if !is_end(output, more) {
-        return application_wrong(output, d);
-    }
-    say(
-        output,
-        b"  while it runs, the application answers the version request with 0.0\n",
-    );
-    d.with_application(true)
-}
-
-// `application silent`, after which nothing may follow.
-fn application_silent(output: &mut Output, d: Bench, more: &[u8]) -> Bench {
-    if !is_end(output, more) {
-        return application_wrong(output, d);
-    }
-    say(output, b"  while it runs, the application is silent\n");
-    d.with_application(false)
-}
-
-fn set_application(output: &mut Output, d: Bench, s: &[u8]) -> Bench {
-    if is(first(s), b"answers") {
-        return application_answers(output, d, rest(s));
-    }
-    if is(first(s), b"silent") {
-        return application_silent(output, d, rest(s));
-    }
-    fault(
-        output,
-        b"application",
-        first(s),
-        b": answers or silent follows\n",
-        0,
-    );
-    application_wrong(output, d)
+fn set_application(session: &mut Session, s: &[u8]) {
+    let Ok(answers) = application_from(&mut session.output, s) else {
+        return session.refuse("application answers, or application silent");
+    };
+    session.output.say(if answers {
+        "  while it runs, the application answers the version request with 0.0\n"
+    } else {
+        "  while it runs, the application is silent\n"
+    });
+    session.bench.set_application(answers);
 }
 
 // What follows `board`, `flash`, `to`, `damage` or `application`.
-pub fn run_line(
-    output: &mut Output,
-    files: &impl Files,
-    d: Bench,
-    word: SetupWord,
-    s: &[u8],
-    memory: &mut [u8],
-) -> Bench {
+pub fn run_line(session: &mut Session, files: &impl Files, word: SetupWord, s: &[u8]) {
     match word {
-        SetupWord::Board => boards::set_board(output, d, s, memory),
-        SetupWord::Flash => set_flash(output, files, d, s, memory),
-        SetupWord::To => set_destination(output, d, s),
-        SetupWord::Damage => set_damage(output, d, s),
-        SetupWord::Application => set_application(output, d, s),
+        SetupWord::Board => boards::set_board(session, s),
+        SetupWord::Flash => set_flash(session, files, s),
+        SetupWord::To => set_destination(session, s),
+        SetupWord::Damage => set_damage(session, s),
+        SetupWord::Application => set_application(session, s),
     }
 }

@@ -1,170 +1,115 @@
 // Lines that show: `state`, `map`, `help`; and what is said when the script ends.
-ghost use Rattle.std.specs.Prelude.{◌<◌, ◌≤◌};
-ghost use Rattle.state.specs.View.{largest_page};
-
 use bench_alarms::alarm::tell_left_waiting;
 use bench_exchange::bench::Bench;
-use bench_exchange::requests::waiting;
-use bench_memory::memory::PAGES;
-use bench_memory::pages::{page_size, times};
-use bench_output::{Output, as_usize, min, say, say_address, say_count, tell, tell_all};
-use bench_script::fields::is_end;
+use bench_exchange::session::Session;
+use bench_memory::memory::{Memory, PAGES};
+use bench_memory::pages::page_size;
+use bench_output::Output;
+use bench_script::fields::end;
 use bench_words::ShowWord;
 use profile::Profile;
 use rules::kinds::{Address, Bus};
 
-fn tell_bus(output: &mut Output, bus: Bus) {
-    match bus {
-        Bus::I2c => say(output, b"  a fresh board on I2C: "),
-        Bus::Rs485 => say(output, b"  a fresh board on RS485: "),
-    }
-}
+// So many marks stand in one line of the map.
+const MARKS: usize = 32;
 
-pub(crate) fn show_profile(output: &mut Output, p: Profile) {
-    let bus = p.bus;
-    tell_bus(output, bus);
-    tell_all(
-        output,
-        b"M %, page %, S %, O %, type %\n",
-        [p.longest, p.page, p.size, p.offset, as_usize(p.hardware)],
-    );
+pub(crate) fn show_profile(output: &mut Output, p: &Profile) {
+    output.say(match p.bus {
+        Bus::I2c => "  a fresh board on I2C: ",
+        Bus::Rs485 => "  a fresh board on RS485: ",
+    });
+    output.tell(format_args!(
+        "M {}, page {}, S {}, O {}, type {}\n",
+        p.longest, p.page, p.size, p.offset, p.hardware
+    ));
 }
 
 fn tell_address(output: &mut Output, own: Address) {
     match own {
-        Address::DefaultRange => say(output, b"  the board listens to 8 to 15, the default range"),
-        Address::Own(a) => tell(output, b"  the board listens to %", as_usize(a)),
+        Address::DefaultRange => output.say("  the board listens to 8 to 15, the default range"),
+        Address::Own(a) => output.tell(format_args!("  the board listens to {a}")),
     }
 }
 
-// A running application: whether it answers.
-fn tell_application(output: &mut Output, answers: bool) {
-    if answers {
-        say(
-            output,
-            b"; the application runs, and answers the version request\n",
-        );
-    } else {
-        say(output, b"; the application runs, and is silent\n");
+// What runs, and whether the application answers; that one which does not run is silent is not said.
+fn running(running: bool, answers: bool) -> &'static str {
+    match (running, answers) {
+        (true, true) => "; the application runs, and answers the version request\n",
+        (true, false) => "; the application runs, and is silent\n",
+        (false, true) => {
+            "; the bootloader runs; the application, once started, answers the version request\n"
+        }
+        (false, false) => "; the bootloader runs\n",
     }
 }
 
-// A running bootloader, and whether the application will answer; that it is silent is not said.
-fn tell_bootloader(output: &mut Output, answers: bool) {
-    if answers {
-        say(
-            output,
-            b"; the bootloader runs; the application, once started, answers the version request\n",
-        );
-    } else {
-        say(output, b"; the bootloader runs\n");
-    }
-}
-
-fn tell_running(output: &mut Output, running: bool, answers: bool) {
-    if running {
-        tell_application(output, answers);
-    } else {
-        tell_bootloader(output, answers);
-    }
-}
-
-fn show_state(output: &mut Output, d: Bench) {
-    let s = d.state;
-    let own = s.address;
-    tell_address(output, own);
-    tell_running(output, s.running, d.answers);
-    tell_all(
-        output,
-        b"  next address %, waiting bytes %, erase count %, last reply % bytes\n",
-        [s.upload.next, s.upload.held, s.upload.count, s.last.len, 0],
-    );
+fn show_state(output: &mut Output, bench: &Bench) {
+    let state = &bench.state;
+    tell_address(output, state.address);
+    output.say(running(state.running, bench.answers));
+    output.tell(format_args!(
+        "  next address {}, waiting bytes {}, erase count {}, last reply {} bytes\n",
+        state.upload.next, state.upload.held, state.upload.count, state.last.len
+    ));
 }
 
 // The mark of a page that was rewritten n times.
-fn times_mark(n: u8) -> u8 {
-    if n == 0 {
-        return b'.';
+fn times_mark(n: u8) -> char {
+    match n {
+        0 => '.',
+        1..=9 => char::from(b'0' + n),
+        _ => '+',
     }
-    if n < 10 { 48 + n } else { b'+' }
-}
-
-// The mark of a page.
-fn mark(page: usize, waiting: usize, memory: &[u8]) -> u8 {
-    if page == waiting {
-        return b'w';
-    }
-    times_mark(times(page, memory))
 }
 
 // The page with waiting bytes, if there is one.
-fn waiting_page(size: usize, held: usize, next: usize) -> usize
-    requires { 0 < size }
-{
-    if held == 0 { PAGES } else { next / size }
+fn waiting_page(bench: &Bench) -> Option<usize> {
+    let upload = &bench.state.upload;
+    if upload.held == 0 {
+        None
+    } else {
+        Some(upload.next / page_size(bench.profile))
+    }
 }
 
-// Where a page begins.
-fn page_start(size: usize, page: usize) -> usize
-    requires { size ≤ largest_page }
-{
-    min(page, PAGES) * size
+// The mark of a page.
+fn mark(page: usize, bench: &Bench, memory: &Memory) -> char {
+    if waiting_page(bench) == Some(page) {
+        'w'
+    } else {
+        times_mark(memory.times(page))
+    }
 }
 
-// What stands before a page's mark: a new line with the address every 32 pages.
-fn margin(output: &mut Output, size: usize, page: usize)
-    requires { size ≤ largest_page }
-{
-    if page % 32 != 0 {
+// What stands before a page's mark: at the head of a line the address.
+fn margin(output: &mut Output, size: usize, page: usize) {
+    if page % MARKS != 0 {
         return;
     }
     if page != 0 {
-        say(output, b"\n");
+        output.say("\n");
     }
-    say(output, b"  ");
-    say_address(output, page_start(size, page));
-    say(output, b"  ");
+    let address = page.saturating_mul(size);
+    output.tell(format_args!("  {address:5}  "));
 }
 
-fn show_page(output: &mut Output, size: usize, page: usize, waiting: usize, memory: &[u8])
-    requires { size ≤ largest_page }
-{
-    margin(output, size, page);
-    say(output, &[mark(page, waiting, memory)]);
-}
-
-fn show_pages(output: &mut Output, size: usize, pages: usize, waiting: usize, memory: &[u8])
-    requires { size ≤ largest_page }
-{
-    let mut page = 0;
-    while page < pages {
-        show_page(output, size, page, waiting, memory);
-        page += 1;
+fn show_map(session: &mut Session) {
+    let size = page_size(session.bench.profile);
+    let output = &mut session.output;
+    output.tell(format_args!(
+        "  a mark for each page of {size} bytes: . untouched, 1 to 9 rewritten so often, + more often, w bytes wait\n"
+    ));
+    let pages = (session.bench.profile.size / size).min(PAGES);
+    for page in 0..pages {
+        margin(output, size, page);
+        output.tell(mark(page, &session.bench, &session.memory));
     }
-}
-
-fn show_map(output: &mut Output, d: Bench, memory: &[u8]) {
-    let size = page_size(d.profile);
-    tell(
-        output,
-        b"  a mark for each page of % bytes: . untouched, 1 to 9 rewritten so often, + more often, w bytes wait\n",
-        size,
-    );
-    let u = d.state.upload;
-    show_pages(
-        output,
-        size,
-        min(d.profile.size / size, PAGES),
-        waiting_page(size, u.held, u.next),
-        memory,
-    );
-    say(output, b"\n");
+    output.say("\n");
 }
 
 fn show_help(output: &mut Output) {
-    say(
-        output,
-        b"  Numbers are decimal, or hexadecimal behind 0x; bytes, HEX and BYTE are hexadecimal digits. The first byte of a frame is byte 1.
+    output.say(
+        "  Numbers are decimal, or hexadecimal behind 0x; bytes, HEX and BYTE are hexadecimal digits. The first byte of a frame is byte 1.
   board i2c|rs485 [M n] [page 64|128] [S n] [O n] [type n] [compatible n] [actual n] [bootloader n] [serial HEX]
   flash fill BYTE | flash file NAME              the flash that the board is lent
   version | info | serial | revision | longest   ask the board
@@ -184,84 +129,74 @@ fn show_help(output: &mut Output) {
     );
 }
 
-// `state`, `map` or `help`.
-fn show(output: &mut Output, d: Bench, word: ShowWord, memory: &[u8]) {
-    match word {
-        ShowWord::State => show_state(output, d),
-        ShowWord::Map => show_map(output, d, memory),
-        ShowWord::Help => show_help(output),
-    }
-}
-
 // A line that shows, after which nothing may follow.
-pub fn run_line(output: &mut Output, d: Bench, word: ShowWord, s: &[u8], memory: &[u8]) -> Bench {
-    if !is_end(output, s) {
-        return d.refused(output, b"nothing after this word");
+pub fn run_line(session: &mut Session, word: ShowWord, s: &[u8]) {
+    if end(&mut session.output, s).is_err() {
+        return session.refuse("nothing after this word");
     }
-    show(output, d, word, memory);
-    d
+    match word {
+        ShowWord::State => show_state(&mut session.output, &session.bench),
+        ShowWord::Map => show_map(session),
+        ShowWord::Help => show_help(&mut session.output),
+    }
 }
 
 // How often something happened that must not be missed.
-fn tell_times(output: &mut Output, before: &[u8], n: usize, thing: &[u8], after: &[u8]) {
+fn tell_times(output: &mut Output, before: &str, n: usize, thing: &str, after: &str) {
     if 0 < n {
-        say(output, before);
-        say_count(output, n, thing);
-        say(output, after);
+        output.say(before);
+        output.say_count(n, thing);
+        output.say(after);
     }
 }
 
 fn tell_wrong(output: &mut Output, wrong: usize, lines: usize) {
     if 0 < wrong {
-        tell_all(
-            output,
-            b"  ** lines that were not understood or not done: % of % **\n",
-            [wrong, lines, 0, 0, 0],
-        );
+        output.tell(format_args!(
+            "  ** lines that were not understood or not done: {wrong} of {lines} **\n"
+        ));
     }
 }
 
 // Says at the end what still waits, what was lost, what got no reply, what failed, and how many lines were not understood.
-pub fn tell_end(output: &mut Output, d: Bench) {
-    if status(d) == 0 {
+pub fn tell_end(output: &mut Output, bench: &Bench) {
+    if status(bench) == 0 {
         return;
     }
-    say(output, b"  the script ends\n");
-    tell_left_waiting(output, waiting(d));
-    tell_times(
-        output,
-        b"  ** accepted bytes were lost ",
-        d.losses,
-        b"time",
-        b" **\n",
-    );
-    tell_times(
-        output,
-        b"  ** no reply, and yet no dead board: ",
-        d.silences,
-        b"time",
-        b" **\n",
-    );
-    tell_times(output, b"  ** ", d.failures, b"upload", b" failed **\n");
-    tell_wrong(output, d.wrong, d.lines);
+    output.say("  the script ends\n");
+    tell_left_waiting(output, bench.waiting());
+    let lost = "  ** accepted bytes were lost ";
+    tell_times(output, lost, bench.losses, "time", " **\n");
+    let silent = "  ** no reply, and yet no dead board: ";
+    tell_times(output, silent, bench.silences, "time", " **\n");
+    tell_times(output, "  ** ", bench.failures, "upload", " failed **\n");
+    tell_wrong(output, bench.wrong, bench.lines);
 }
 
 // Whether an alarm stood that a script must not pass over: a failed upload, lost bytes, a silence, or bytes that wait at the end.
-fn alarmed(d: Bench) -> bool {
-    0 < d.losses || 0 < d.silences || 0 < d.failures || 0 < waiting(d)
+fn is_alarmed(bench: &Bench) -> bool {
+    [
+        bench.losses,
+        bench.silences,
+        bench.failures,
+        bench.waiting(),
+    ] != [0; 4]
 }
 
 // The status of the whole script: 1 if a line was not understood, 3 if an alarm stood, else 0.
-pub fn status(d: Bench) -> usize {
-    if 0 < d.wrong {
-        return 1;
+pub fn status(bench: &Bench) -> u8 {
+    if 0 < bench.wrong {
+        1
+    } else if is_alarmed(bench) {
+        3
+    } else {
+        0
     }
-    if alarmed(d) { 3 } else { 0 }
 }
 
 // Shows a line of the script, with what stands before it.
-pub fn line(output: &mut Output, before: &[u8], s: &[u8]) {
-    say(output, before);
-    say(output, s);
-    say(output, b"\n");
+pub fn line(output: &mut Output, before: &str, s: &[u8]) {
+    output.say(before);
+    output.say_raw(s);
+    output.say("\n");
 }

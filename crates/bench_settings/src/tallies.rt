@@ -1,83 +1,73 @@
 // `tally`: the frames that the board has received, by their answers.
-use bench_exchange::bench::Bench;
-use bench_output::{Output, say, say_number, say_piece};
-use bench_script::fields::{fault, first, is, is_end, rest};
-use bench_wording::meaning::say_look_for;
-use rules::kinds::Bus;
+use bench_exchange::session::Session;
+use bench_output::Output;
+use bench_script::fields::{Fault, end, first, is, rest, tell_fault};
+use bench_wording::meaning::look_for;
+use rules::kinds::{Bus, Outcome};
 use tally::Tally;
 
 fn tell_counted(output: &mut Output, bus: Bus) {
-    match bus {
-        Bus::I2c => say(
-            output,
-            b"  tally of received frames; on I2C only those answered 0 are counted\n",
-        ),
-        Bus::Rs485 => say(output, b"  tally of received frames\n"),
-    }
+    output.say(match bus {
+        Bus::I2c => "  tally of received frames; on I2C only those answered 0 are counted\n",
+        Bus::Rs485 => "  tally of received frames\n",
+    });
 }
 
-// A counter stops at its largest number.
-fn say_counter(output: &mut Output, n: u16) {
-    say_number(output, n as usize);
-    if Tally::LARGEST_COUNT <= n {
-        say(output, b" or more");
-    }
+// A counter with its name. It stops at its largest number.
+fn say_counter(output: &mut Output, name: &str, n: u16) {
+    let more = if n < Tally::LARGEST_COUNT {
+        ""
+    } else {
+        " or more"
+    };
+    output.tell(format_args!("    {name}: {n}{more}"));
 }
 
-// A counter with its name, and what to look for where it is not 0. Piece 0 is that of the frames answered 0, piece n number 14 + n's.
-fn show_counter(output: &mut Output, piece: usize, n: u16) {
-    say_piece(
-        output,
-        piece,
-        b"    answered 0: |    15 too short: |    16 too long: |    17 wrong check sum: |    18 foreign address: ",
-    );
-    say_counter(output, n);
-    if n == 0 || piece == 0 {
-        say(output, b"\n");
-        return;
+// A counter of frames that get this answer, and what to look for where it is not 0.
+fn show_dropped(output: &mut Output, answer: Outcome, name: &str, n: u16) {
+    say_counter(output, name, n);
+    if n == 0 {
+        return output.say("\n");
     }
-    say(output, b"; look for: ");
-    say_look_for(output, piece);
+    output.say("; look for: ");
+    output.say(look_for(answer));
 }
 
 fn show_tally(output: &mut Output, bus: Bus, t: Tally) {
     tell_counted(output, bus);
-    show_counter(output, 0, t.answered);
-    show_counter(output, 1, t.short);
-    show_counter(output, 2, t.long);
-    show_counter(output, 3, t.sum);
-    show_counter(output, 4, t.foreign);
+    say_counter(output, "answered 0", t.answered);
+    output.say("\n");
+    show_dropped(output, Outcome::FrameTooShort, "15 too short", t.short);
+    show_dropped(output, Outcome::FrameTooLong, "16 too long", t.long);
+    show_dropped(output, Outcome::FrameSumWrong, "17 wrong check sum", t.sum);
+    show_dropped(
+        output,
+        Outcome::FrameForeign,
+        "18 foreign address",
+        t.foreign,
+    );
 }
 
-fn wrong(output: &mut Output, d: Bench) -> Bench {
-    d.refused(output, b"tally, or tally clear")
-}
-
-// `tally clear`, after which nothing may follow.
-fn clear(output: &mut Output, d: Bench, more: &[u8]) -> Bench {
-    if !is_end(output, more) {
-        return wrong(output, d);
+// `clear`, after which nothing may follow.
+fn clear(output: &mut Output, s: &[u8]) -> Result<(), Fault> {
+    if !is(first(s), "clear") {
+        return Err(tell_fault(output, "tally", first(s), ": nothing or clear follows\n"));
     }
-    say(output, b"  every counter of the tally is 0\n");
-    d.with_tally(Tally::cleared())
+    end(output, rest(s))
 }
 
 // What follows `tally`: nothing, or `clear`.
-pub fn run_line(output: &mut Output, d: Bench, s: &[u8]) -> Bench {
-    if s.len() == 0 {
-        let bus = d.bus();
-        show_tally(output, bus, d.tally);
-        return d;
+pub fn run_line(session: &mut Session, s: &[u8]) {
+    if s.is_empty() {
+        return show_tally(
+            &mut session.output,
+            session.bench.bus(),
+            session.bench.tally,
+        );
     }
-    if is(first(s), b"clear") {
-        return clear(output, d, rest(s));
+    if clear(&mut session.output, s).is_err() {
+        return session.refuse("tally, or tally clear");
     }
-    fault(
-        output,
-        b"tally",
-        first(s),
-        b": nothing or clear follows\n",
-        0,
-    );
-    wrong(output, d)
+    session.output.say("  every counter of the tally is 0\n");
+    session.bench.tally = Tally::cleared();
 }
