@@ -1,4 +1,5 @@
 // Parts of lent bytes and single bytes of them, for any numbers at all.
+// By index: an `Option<&u8>`, as `get` gives it, would lie otherwise at 32 bits (scripts/firmware).
 #![tactic(auto)]
 
 ghost use Rattle.std.specs.Prelude.{◌≡◌, drop, get_or};
@@ -22,12 +23,16 @@ pub fn first<'a>(bytes: &'a [u8], n: usize) -> &'a [u8]
 pub fn stands_at(bytes: &[u8], place: usize, b: u8) -> bool
     ensures { result ≡ stands_at bytes.now place b }
 {
-    bytes.get(place) == Some(&b)
+    place < bytes.len() && bytes[place] == b
 }
 
 // The byte at a place, or another where there is none.
 pub fn byte_or(bytes: &[u8], place: usize, other: u8) -> u8
     ensures { result ≡ get_or bytes.now place other }
 {
-    bytes.get(place).copied().unwrap_or(other)
+    if place < bytes.len() {
+        bytes[place]
+    } else {
+        other
+    }
 }
