@@ -200,4 +200,11 @@ impl Session {
         alarm::tell_waiting_after(&mut self.output, done.is_ok(), self.bench.waiting());
         self.note_reply(done.reply.is_ok(), &done.reply);
     }
+
+    // The master sends to another address from now on.
+    pub fn follow(&mut self, to: usize) {
+        self.output
+            .tell(format_args!("  the master sends to {to} from now on\n"));
+        self.bench.to = to;
+    }
 }

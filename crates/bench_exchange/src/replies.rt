@@ -42,7 +42,8 @@ pub(crate) fn damage(output: &mut Output, s: &mut [u8], hit: Option<Damage>) {
     let old = *byte;
     let new = !old;
     *byte = new;
-    output.tell(format_args!("  byte {n} damaged: {old:02x} -> {new:02x}\n"));
+    output.tell(format_args!("  byte {n} damaged: "));
+    output.tell(format_args!("{old:02x} -> {new:02x}\n"));
 }
 
 // Who replies.

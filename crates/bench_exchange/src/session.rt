@@ -60,13 +60,6 @@ impl Session {
         }
     }
 
-    // The master sends to another address from now on.
-    pub fn follow(&mut self, to: usize) {
-        self.output
-            .tell(format_args!("  the master sends to {to} from now on\n"));
-        self.bench.to = to;
-    }
-
     // The bytes that a line gives, put into the image: how many.
     pub fn load_data(&mut self, files: &impl Files, s: &[u8]) -> Result<usize, Fault> {
         self.memory.load_data(&mut self.output, files, s)

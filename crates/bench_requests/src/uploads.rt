@@ -109,18 +109,19 @@ fn read_piece(session: &mut Session, at: usize, end: usize) -> Result<(), Failed
         length: end.saturating_sub(at),
     };
     let done = session.request(r, false, 0..0);
-    if done.is_ok() && session.is_image(&done, at, end) {
-        return Ok(());
+    if !done.is_ok() {
+        session.output.tell(format_args!(
+            "  ** read back: the bytes from address {at} on could not be read **\n"
+        ));
+        return Err(Failed);
     }
-    let fault = if done.is_ok() {
-        "are not as sent"
-    } else {
-        "could not be read"
-    };
-    session.output.tell(format_args!(
-        "  ** read back: the bytes from address {at} on {fault} **\n"
-    ));
-    Err(Failed)
+    if !session.is_image(&done, at, end) {
+        session.output.tell(format_args!(
+            "  ** read back: the bytes from address {at} on are not as sent **\n"
+        ));
+        return Err(Failed);
+    }
+    Ok(())
 }
 
 // The whole image, read back.

@@ -14,9 +14,8 @@ fn flash_fill(session: &mut Session, value: &[u8]) {
         return session.refuse("flash fill BYTE: the byte in two hexadecimal digits, as ff");
     };
     session.memory.fill_flash(byte);
-    session
-        .output
-        .tell(format_args!("  every byte of flash is {byte:02x}\n"));
+    session.output.say("  every byte of flash is ");
+    session.output.tell(format_args!("{byte:02x}\n"));
     tell_left_waiting(&mut session.output, session.bench.waiting());
 }
 
