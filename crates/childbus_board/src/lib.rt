@@ -4,25 +4,16 @@
 // stand, and only their bytes that mean something are touched.
 #![tactic(auto)]
 
-ghost use Rattle.std.specs.Prelude.{◌≡◌, List, ℕ, length};
-ghost use Rattle.rules.specs.Numbers.{Unrefused};
-ghost use Rattle.rules.specs.Frames as frames;
-ghost use Rattle.rules.specs.Board.{handled};
-ghost use Rattle.state.specs.View.{largest_page, view};
-ghost use Rattle.state.specs.Heads.{state_with};
-ghost use Rattle.profile.specs.View.{profile_of};
-ghost use Rattle.answer.specs.HeadAnswered.{Handled};
+ghost use Rattle.std.specs.Prelude.{◌≡◌};
 ghost use Rattle.childbus_board.specs.BoardBytes.{fresh_left, FreshLeft, received_left, ReceivedLeft, read_left, ReadLeft};
 ghost use Rattle.childbus_board.specs.TallyCall.{CountedLeft, counted_left};
 ghost use Rattle.childbus_board.specs.Kept.{Kept};
 
-use answer::Answer;
 use fields::clip;
 use handling::handle;
 use numbers::{board_number, reply_length};
-use profile::Profile;
 use rules::kinds::Outcome;
-use state::{Head, State};
+use state::State;
 use state_bytes::{REPLY_AT, STATE_BYTES, WAITING_AT};
 
 // The fresh board.
@@ -35,29 +26,6 @@ pub fn childbus_fresh(state: &mut [u8]) -> u32
     state_writer::clear(state);
     state_writer::head_to(State::fresh().head(), state);
     0
-}
-
-// A frame handled with the waiting bytes where they stand in a buffer.
-fn handle_part(
-    p: Profile,
-    h: Head,
-    address: u8,
-    frame: &[u8],
-    waiting: &mut [u8],
-    flash: &mut [u8],
-    out: &mut [u8],
-) -> Answer<Head>
-    requires by_index { (w l : List ℕ) → Unrefused (profile_of p) (view (state_with h w l)) (length flash.old) (length out.old) }
-    requires waiting_len { length waiting.old ≡ largest_page }
-    ensures { Handled p.bus h result waiting.old waiting.new flash.new out.new out.old
-        (λ l. handled (profile_of p) (view (state_with h waiting.old l)) address frame.now flash.old
-        (frames.verdict p.bus p.longest h.running h.address address frame.now))
-        (frames.verdict p.bus p.longest h.running h.address address frame.now) }
-{
-    let Some(page) = waiting.as_mut_array() else {
-        unreachable!()
-    };
-    handle(p, h, address, frame, page, flash, out)
 }
 
 // A received frame.
@@ -80,7 +48,7 @@ pub fn childbus_receive(
         *made = 0;
         return board_number(outcome);
     }
-    let handled = handle_part(
+    let handled = handle(
         p,
         h,
         clip(address),

@@ -3,7 +3,7 @@
 
 ghost use Rattle.std.specs.Prelude.{◌≡◌, length};
 ghost use Rattle.rules.specs.Commands.{executed};
-ghost use Rattle.state.specs.View.{view};
+ghost use Rattle.state.specs.View.{largest_page, view};
 ghost use Rattle.state.specs.Heads.{state_with};
 ghost use Rattle.profile.specs.View.{profile_of};
 ghost use Rattle.response.specs.Done.{Commanded, Serving};
@@ -11,7 +11,7 @@ ghost use Rattle.response.specs.Done.{Commanded, Serving};
 use dispatch::perform;
 use profile::Profile;
 use response::{Done, Status};
-use state::{Head, State};
+use state::Head;
 
 // A command with its arguments, its results laid into the lent buffer from a place on.
 pub fn execute(
@@ -19,12 +19,13 @@ pub fn execute(
     h: Head,
     code: usize,
     args: &[u8],
-    waiting: &mut [u8; State::LARGEST_PAGE],
+    waiting: &mut [u8],
     flash: &mut [u8],
     out: &mut [u8],
     at: usize,
 ) -> Done
     requires serving { Serving p h (length flash.old) (length out.old) at }
+    requires waiting_len { length waiting.old ≡ largest_page }
     ensures { Commanded result waiting.old waiting.new flash.new out.new
         (λ l. executed (profile_of p) (view (state_with h waiting.old l)) code args.now flash.old)
         out.old at }

@@ -3,14 +3,14 @@
 
 ghost use Rattle.std.specs.Prelude.{◌≡◌, true, length};
 ghost use Rattle.rules.specs.Commands.{length_allowed, performed};
-ghost use Rattle.state.specs.View.{view};
+ghost use Rattle.state.specs.View.{largest_page, view};
 ghost use Rattle.state.specs.Heads.{state_with};
 ghost use Rattle.profile.specs.View.{profile_of};
 ghost use Rattle.response.specs.Done.{Commanded, Serving};
 
 use profile::Profile;
 use response::Done;
-use state::{Head, State};
+use state::Head;
 
 // The command's own rule. The last arm is 0x0c, the longest frame.
 pub fn perform(
@@ -18,12 +18,13 @@ pub fn perform(
     h: Head,
     code: usize,
     args: &[u8],
-    waiting: &mut [u8; State::LARGEST_PAGE],
+    waiting: &mut [u8],
     flash: &mut [u8],
     out: &mut [u8],
     at: usize,
 ) -> Done
     requires serving { Serving p h (length flash.old) (length out.old) at }
+    requires waiting_len { length waiting.old ≡ largest_page }
     requires args_value { length_allowed code (length args.now) ≡ true }
     ensures { Commanded result waiting.old waiting.new flash.new out.new
         (λ l. performed (profile_of p) (view (state_with h waiting.old l)) code args.now flash.old)

@@ -3,7 +3,7 @@
 
 ghost use Rattle.std.specs.Prelude.{◌≡◌, List, ℕ, ◌≤◌, length};
 ghost use Rattle.rules.specs.Commands.{written, finished};
-ghost use Rattle.state.specs.View.{view};
+ghost use Rattle.state.specs.View.{largest_page, view};
 ghost use Rattle.state.specs.Heads.{state_with};
 ghost use Rattle.profile.specs.View.{profile_of};
 ghost use Rattle.response.specs.Done.{command_effect, ruled_command, Commanded, Serving};
@@ -12,19 +12,20 @@ use acceptance::{accepts, restart};
 use byte_slices::number_at;
 use profile::Profile;
 use response::{Done, Status};
-use state::{Head, State};
+use state::Head;
 
 // 0x06 write: address, data bytes.
 pub fn write(
     p: Profile,
     h: Head,
     args: &[u8],
-    waiting: &mut [u8; State::LARGEST_PAGE],
+    waiting: &mut [u8],
     flash: &mut [u8],
     out: &mut [u8],
     at: usize,
 ) -> Done
     requires serving { Serving p h (length flash.old) (length out.old) at }
+    requires waiting_len { length waiting.old ≡ largest_page }
     requires in_bounds { 2 ≤ length args.now }
     ensures { Commanded result waiting.old waiting.new flash.new out.new
         (λ l. written (profile_of p) (view (state_with h waiting.old l)) args.now flash.old)
@@ -44,12 +45,13 @@ pub fn write(
 pub fn finalize(
     p: Profile,
     h: Head,
-    waiting: &[u8; State::LARGEST_PAGE],
+    waiting: &[u8],
     flash: &mut [u8],
     out: &mut [u8],
     at: usize,
 ) -> Done
     requires serving { Serving p h (length flash.old) (length out.old) at }
+    requires waiting_len { length waiting.now ≡ largest_page }
     ensures { (l : List ℕ) → command_effect result waiting.now l flash.new out.new
         ≡ ruled_command (finished (profile_of p) (view (state_with h waiting.now l)) flash.old)
         out.old at }

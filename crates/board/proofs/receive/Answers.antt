@@ -30,6 +30,7 @@ handle-handled-requires c =
     let free = λ (w l : List ℕ). check_passed (profile_of c.args.p) (view (state_with c.head-h.result w l))
     (length c.args.flash.now) (length c.args.out.now) (sym (c.refuse.ensures w l) ∙ c.in_default.is) in record {
       by_index = λ w l. refusal_unrefused _ _ _ _ (free w l);
+      waiting_len = search rules;
     }
 
 pub keep_reply-requires : goal.keep_reply-requires

@@ -16,15 +16,15 @@ returns-in-Err c =
     c.profile_from-p.ensures c.head_from-h.ensures refl
     c.refuse.ensures c.args.frame.now _ c.in-Err.is)
 
-pub slice_bounds-handle_part-end : goal.slice_bounds-handle_part-end
-slice_bounds-handle_part-end c =
+pub slice_bounds-handle-end : goal.slice_bounds-handle-end
+slice_bounds-handle-end c =
     let long = passed_long c.args.profile.now c.args.state.now c.args.address c.args.flash.now c.args.out.now
     c.profile_from-p.ensures c.head_from-h.ensures c.clip.ensures
     c.refuse.ensures c.in_default.is in
     omega (arith, long)
 
-pub handle_part-handled-requires : goal.handle_part-handled-requires
-handle_part-handled-requires c =
+pub handle-handled-requires : goal.handle-handled-requires
+handle-handled-requires c =
     let long = passed_long c.args.profile.now c.args.state.now c.args.address c.args.flash.now c.args.out.now
     c.profile_from-p.ensures c.head_from-h.ensures c.clip.ensures
     c.refuse.ensures c.in_default.is in record {
@@ -41,7 +41,7 @@ returns-then-number-ge2 c =
     (received-ignored-left c.args.profile.now c.args.state.now c.args.address c.args.flash.now c.args.out.now
     c.profile_from-p.ensures c.head_from-h.ensures c.clip.ensures
     c.refuse.ensures c.args.frame.now
-    c.in_default.is _ _ _ _ c.handle_part-handled.ensures (rw c.board_number-number.ensures at c.if-number-ge2.true))
+    c.in_default.is _ _ _ _ c.handle-handled.ensures (rw c.board_number-number.ensures at c.if-number-ge2.true))
 
 pub write_back-requires : goal.write_back-requires
 write_back-requires c =
@@ -51,7 +51,7 @@ write_back-requires c =
     let most = made_most c.args.profile.now c.args.state.now c.args.address c.args.flash.now c.args.out.now
     c.profile_from-p.ensures c.head_from-h.ensures c.clip.ensures
     c.refuse.ensures c.args.frame.now
-    c.in_default.is _ _ _ _ c.handle_part-handled.ensures in
+    c.in_default.is _ _ _ _ c.handle-handled.ensures in
     let n = c.reply_length-n.ensures in
     record {
       state_size_in_bounds = omega (arith, long);
@@ -62,10 +62,10 @@ pub returns : goal.returns
 returns c =
     let number = c.board_number-number.ensures in
     let length_is = c.reply_length-n.ensures in
-    let lent : length c.handle_part-handled.new.waiting ≡ largest_page = search rules in
+    let lent : length c.handle-handled.new.waiting ≡ largest_page = search rules in
     rw (number, length_is)
     (received_kept_left c.args.profile.now c.args.state.now c.args.address c.args.flash.now c.args.out.now
     c.profile_from-p.ensures c.head_from-h.ensures c.clip.ensures
     c.refuse.ensures c.args.frame.now
-    c.in_default.is _ _ _ _ c.handle_part-handled.ensures lent (rw number at c.if-number-ge2.false)
+    c.in_default.is _ _ _ _ c.handle-handled.ensures lent (rw number at c.if-number-ge2.false)
     (λ w l. rw length_is at (c.write_back.ensures w l)))

@@ -44,6 +44,7 @@ pub perform-requires : goal.perform-requires
 perform-requires c =
     let a = c.row_allows in record {
       serving = c.requires.serving;
+      waiting_len = c.requires.waiting_len;
       args_value = sym (row_allowed c.args.code c.row-row.result c.row-row.ensures _ a.ensures) ∙ c.if-not-row_allows.false;
     }
 

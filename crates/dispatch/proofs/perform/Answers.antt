@@ -31,6 +31,7 @@ pub write-requires : goal.write-requires
 write-requires c =
     record {
       serving = c.requires.serving;
+      waiting_len = c.requires.waiting_len;
       in_bounds = write_arguments c.args.code (length c.args.args.now) c.in-6.is c.requires.args_value;
     }
 

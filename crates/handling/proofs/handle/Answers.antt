@@ -21,6 +21,7 @@ pub serve-requires : goal.serve-requires
 serve-requires c =
     record {
       by_index = c.requires.by_index;
+      waiting_len = c.requires.waiting_len;
       bus_in_bounds = command_long c.args.p.bus c.args.p.longest c.args.h.running c.args.h.address c.args.address
           c.args.frame.now (sym c.classify-v.ensures ∙ c.in-Command.is);
     }

@@ -12,7 +12,7 @@ finalize-finalized-requires c =
       ready =
           ready c.args.p c.args.h _ _ c.args.at c.requires.serving (upload_with c.args.h.counts c.args.waiting.now)
           (upload_formed_lem c.args.p c.args.h _ _ c.args.at c.requires.serving c.args.waiting.now);
-      waiting_len = c.told-waiting;
+      waiting_len = c.requires.waiting_len;
     }
 
 pub reply_number-requires : goal.reply_number-requires

@@ -39,7 +39,7 @@ take-taken-requires c =
           (rw (c.restart.ensures c.args.waiting.now) (restarted_formed (profile_of c.args.p).page c.args.p.size address u formed));
       bytes_bound =
           rw (ap (λ u. u.next) (c.restart.ensures c.args.waiting.now)) (accepted_fits c.args.p.size address many u yes);
-      waiting_len = c.told-waiting;
+      waiting_len = c.requires.waiting_len;
     }
 
 pub reply-requires-2 : goal.reply-requires-2
