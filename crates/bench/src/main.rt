@@ -34,6 +34,7 @@ fn run_script(
         session.output.say("  help lists the lines, quit ends\n");
     }
     let mut line = [0u8; LONGEST_LINE];
+    // nothing says that the input ends, so the turns are counted up to a number that no script reaches
     for _ in 0..u64::MAX {
         if session.bench.ended || !session.output.is_fine() {
             break;

@@ -78,11 +78,19 @@ pub fn default_profile(bus: Bus) -> Profile {
     }
 }
 
+// The largest count; no script reaches it.
+const LARGEST_COUNT: usize = 1000000000;
+
+// One more, up to the largest count.
+pub(crate) fn one_more(n: usize) -> usize {
+    n.saturating_add(1).min(LARGEST_COUNT)
+}
+
 // The first address of the default range.
 pub const FIRST_ADDRESS: usize = 8;
 
 impl Bench {
-    pub fn new(typed: bool) -> Self {
+    pub fn new() -> Self {
         Bench {
             profile: default_profile(Bus::I2c),
             state: State::fresh(),
@@ -99,7 +107,7 @@ impl Bench {
             losses: 0,
             silences: 0,
             failures: 0,
-            typed,
+            typed: false,
             ended: false,
         }
     }
@@ -145,23 +153,23 @@ impl Bench {
 
     // A silence that must not be missed.
     pub(crate) fn note_silence(&mut self) {
-        self.silences = self.silences.saturating_add(1);
+        self.silences = one_more(self.silences);
     }
 
     // A call that lost so many bytes.
     pub fn note_loss(&mut self, n: usize) {
         if 0 < n {
-            self.losses = self.losses.saturating_add(1);
+            self.losses = one_more(self.losses);
         }
     }
 
     // An upload that failed.
     pub fn note_failure(&mut self) {
-        self.failures = self.failures.saturating_add(1);
+        self.failures = one_more(self.failures);
     }
 
     // One more line.
     pub fn note_line(&mut self) {
-        self.lines = self.lines.saturating_add(1);
+        self.lines = one_more(self.lines);
     }
 }

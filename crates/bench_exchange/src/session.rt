@@ -1,5 +1,5 @@
 // The bench at work: what it writes to, what it remembers, and the bytes that it lends.
-use crate::bench::Bench;
+use crate::bench::{Bench, one_more};
 use bench_memory::memory::Memory;
 use bench_output::Output;
 use bench_script::fields::Fault;
@@ -21,7 +21,7 @@ impl Session {
     pub fn new(alloc: Global, output: Output) -> Result<Self, AllocError> {
         Ok(Session {
             output,
-            bench: Bench::new(false),
+            bench: Bench::new(),
             memory: Memory::new(alloc)?,
         })
     }
@@ -33,7 +33,7 @@ impl Session {
 
     // A line that cannot be run; what is wrong with it is said.
     fn note_wrong(&mut self) {
-        self.bench.wrong = self.bench.wrong.saturating_add(1);
+        self.bench.wrong = one_more(self.bench.wrong);
     }
 
     // A line that was not understood: it says what was expected, and changes nothing else.

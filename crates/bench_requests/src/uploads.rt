@@ -13,7 +13,7 @@ use upload_ends::UploadEnd;
 #[derive(Clone, Copy)]
 struct Failed;
 
-// A request that is said only where that must not be missed: what it counts, or S, if its status is OK.
+// The number in the reply to a command, if its status is OK: S of a hardware info, the erase count of a finalize.
 fn value_of(session: &mut Session, code: usize, verbose: bool) -> Result<usize, Failed> {
     let done = session.request(Request::Plain(code), verbose, 0..0);
     done.ok().map(|r| r.value).ok_or(Failed)

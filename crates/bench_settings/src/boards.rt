@@ -41,7 +41,7 @@ const FIELDS: [(&str, Field); 9] = [
 // The most names of one line that are read.
 const NAMES: usize = 100;
 
-// The field with this name, and its name as it is written there.
+// The field with this name.
 fn field_named(name: &[u8]) -> Option<Field> {
     FIELDS.iter().find(|f| is(name, f.0)).map(|f| f.1)
 }

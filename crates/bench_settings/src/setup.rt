@@ -5,6 +5,7 @@ use bench_exchange::bench::Damage;
 use bench_exchange::session::Session;
 use bench_output::Output;
 use bench_script::fields::{Fault, end, first, hex_byte, is, number, rest, tell_fault};
+use bench_script::image::{DataKind, data_kind};
 use bench_words::SetupWord;
 use std::fs::Files;
 
@@ -37,20 +38,20 @@ fn flash_file(session: &mut Session, files: &impl Files, name: &[u8]) {
 }
 
 fn set_flash(session: &mut Session, files: &impl Files, s: &[u8]) {
-    let kind = first(s);
-    if is(kind, "fill") {
-        return flash_fill(session, rest(s));
+    let word = first(s);
+    match data_kind(word) {
+        DataKind::Fill => flash_fill(session, rest(s)),
+        DataKind::File => flash_file(session, files, rest(s)),
+        DataKind::Digits => {
+            tell_fault(
+                &mut session.output,
+                "flash",
+                word,
+                ": fill or file follows\n",
+            );
+            session.refuse("flash fill BYTE, or flash file NAME");
+        }
     }
-    if is(kind, "file") {
-        return flash_file(session, files, rest(s));
-    }
-    tell_fault(
-        &mut session.output,
-        "flash",
-        kind,
-        ": fill or file follows\n",
-    );
-    session.refuse("flash fill BYTE, or flash file NAME");
 }
 
 // `to ADDRESS`
