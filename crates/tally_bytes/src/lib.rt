@@ -6,6 +6,7 @@ ghost use Rattle.rules.specs.Numbers.{laid};
 ghost use Rattle.tally_bytes.specs.TallyBytes.{tally_size, counter_at, tally_at, tally_bytes, tally_left};
 ghost use Rattle.tally_bytes.specs.BothWays.{BothWays};
 
+use byte_slices::low_first;
 use tally::{Tally, counted_by};
 
 // How many bytes a tally takes.
@@ -16,7 +17,7 @@ fn counter_at(b: &[u8], at: usize) -> u16
     requires { at + 2 ≤ length b.now }
     ensures { result ≡ counter_at b.now at }
 {
-    u16::from(b[at]) + u16::from(b[at + 1]) * 256
+    u16::from_le_bytes([b[at], b[at + 1]])
 }
 
 // The tally that ten bytes say.
@@ -38,17 +39,22 @@ fn tally_to(t: Tally, b: &mut [u8])
     requires { tally_size ≤ length b.old }
     ensures { b.new ≡ laid (tally_bytes t) b.old }
 {
+    let short = low_first(t.short);
+    let long = low_first(t.long);
+    let sum = low_first(t.sum);
+    let foreign = low_first(t.foreign);
+    let answered = low_first(t.answered);
     let bytes = [
-        (t.short % 256) as u8,
-        (t.short / 256) as u8,
-        (t.long % 256) as u8,
-        (t.long / 256) as u8,
-        (t.sum % 256) as u8,
-        (t.sum / 256) as u8,
-        (t.foreign % 256) as u8,
-        (t.foreign / 256) as u8,
-        (t.answered % 256) as u8,
-        (t.answered / 256) as u8,
+        short[0],
+        short[1],
+        long[0],
+        long[1],
+        sum[0],
+        sum[1],
+        foreign[0],
+        foreign[1],
+        answered[0],
+        answered[1],
     ];
     byte_slices::store(b, 0, &bytes);
 }
