@@ -1,5 +1,7 @@
 -- The stores of a head lie one behind the other; zeros one behind the other.
 use mathlib.Core.Path.{◌≡◌, refl, ap, ◌∙◌}
+use mathlib.Core.Bool.{Bool, true, false}
+use mir.Val.{bool_byte}
 use mathlib.Core.List.{List, [], ◌∷◌, ◌++◌}
 use Prim.Native.Nat.{ℕ, zero, suc, ◌+◌}
 use native.Mathlib.Numerals.{add-one}
@@ -13,6 +15,11 @@ use Rattle.state.specs.Heads.{state_with}
 use Rattle.byte_slices.specs.Four.{four_bytes}
 use Rattle.fields.proofs.Laws.{part_put}
 use Rattle.state_bytes.specs.StateBytes.{reply_from, kind_byte, own_byte, running_byte, head_written}
+
+-- a bool as a byte
+pub running-from : (running : Bool) → bool_byte running ≡ running_byte running
+running-from true = refl
+running-from false = refl
 
 -- the stores of `head_to`, in their order: b, and what each of them left
 pub stored_head : (h : Head) (b : List ℕ) {kind own running : ℕ} {b0 b1 b2 b3 b4 : List ℕ}

@@ -8,7 +8,7 @@ ghost use Rattle.rules.specs.Numbers.{laid};
 ghost use Rattle.state.specs.View.{largest_frame, view};
 ghost use Rattle.state.specs.Heads.{state_with, kept_reply};
 ghost use Rattle.fields.specs.Fields.{part};
-ghost use Rattle.state_bytes.specs.StateBytes.{reply_from, state_size, kind_byte, own_byte, running_byte, head_written};
+ghost use Rattle.state_bytes.specs.StateBytes.{reply_from, state_size, kind_byte, own_byte, head_written};
 
 use answer::keep_reply;
 use byte_slices::store_four;
@@ -35,12 +35,6 @@ fn own_byte(a: Address, before: u8) -> u8
     }
 }
 
-fn running_byte(running: bool) -> u8
-    ensures { result ≡ running_byte running }
-{
-    if running { 1 } else { 0 }
-}
-
 // Writes the head of a state, whatever the two buffers hold.
 pub fn head_to(h: Head, b: &mut [u8])
     requires { state_size ≤ length b.old }
@@ -50,7 +44,7 @@ pub fn head_to(h: Head, b: &mut [u8])
     let flags = [
         kind_byte(address),
         own_byte(address, b[1]),
-        running_byte(h.running),
+        u8::from(h.running),
         b[3],
     ];
     byte_slices::store(b, 0, &flags);
