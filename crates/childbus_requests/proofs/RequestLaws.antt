@@ -1,7 +1,7 @@
 -- From what the calls that write a request promise to what their calls of the boundary do, on a bus that there is.
 use mathlib.Core.Path.{◌≡◌, ◌∙◌}
 use mathlib.Core.List.{List}
-use Prim.Native.Nat.{ℕ, ◌≤◌}
+use Prim.Native.Nat.{ℕ}
 use lib.ListN.{length}
 use borrow.Author.Tests.{le-ltb}
 use Rattle.rules.specs.declared.kinds.Bus.{Bus}

@@ -12,7 +12,7 @@ use crate::requests::{general_of, request_of};
 use fields::clip;
 use numbers::{encoded_length, encoded_number, reset_length, reset_number};
 use rules::kinds::Bus;
-use rules::requests::Request;
+use rules::requests::{EncodeError, Request, ResetError};
 
 // A request on a bus, where there is such a bus.
 fn encode_request(
@@ -29,7 +29,7 @@ fn encode_request(
 {
     let Ok(bus) = Bus::try_from(bus) else {
         *made = 0;
-        return 2;
+        return encoded_number(Err(EncodeError::FrameOutOfRange));
     };
     let answer = encoder::encode::encode(
         bus,
@@ -92,7 +92,7 @@ pub fn childbus_reset_running(
 {
     let Ok(bus) = Bus::try_from(bus) else {
         *made = 0;
-        return 2;
+        return reset_number(Err(ResetError::FrameOutOfRange));
     };
     let answer = reset_running::reset_running(bus, longest as usize, clip(major), clip(minor), out);
     *made = reset_length(answer);

@@ -6,14 +6,14 @@ use Rattle.childbus_requests.proofs.childbus_reset_running.Goals as goal
 
 pub returns-in_default : goal.returns-in_default
 unfolding reset_left
-returns-in_default c = rw (lt-ltb 1 _ c.in_default.ensures.1)
+returns-in_default c = rw (c.reset_number.ensures, lt-ltb 1 _ c.in_default.ensures.1)
 
 pub returns : goal.returns
 returns c =
     reset_left_lem c.args.bus c.args.longest c.args.out.now
     c.in-Ok.bus
     c.in-Ok.ensures
-    c.reset_number.ensures
+    c.reset_number-2.ensures
     c.reset_length.ensures
     c.args.major
     c.args.minor

@@ -6,14 +6,14 @@ use Rattle.childbus_requests.proofs.encode_request.Goals as goal
 
 pub returns-in_default : goal.returns-in_default
 unfolding encoded_left
-returns-in_default c = rw (lt-ltb 1 _ c.in_default.ensures.1)
+returns-in_default c = rw (c.encoded_number.ensures, lt-ltb 1 _ c.in_default.ensures.1)
 
 pub returns : goal.returns
 returns c =
     encoded-left c.args.bus c.args.longest c.args.out.now
     c.in-Ok.bus
     c.in-Ok.ensures
-    c.encoded_number.ensures
+    c.encoded_number-2.ensures
     c.encoded_length.ensures
     c.args.request
     c.args.destination
