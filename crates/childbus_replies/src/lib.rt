@@ -30,7 +30,7 @@ pub fn childbus_decode(
     *start = 0;
     *len = 0;
     let Ok(bus) = Bus::try_from(bus) else {
-        return 7;
+        return decoded_number(Decoded::NotServed);
     };
     let answer = decoder::decode::decode(
         bus,

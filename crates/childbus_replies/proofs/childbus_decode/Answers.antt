@@ -6,7 +6,7 @@ use Rattle.childbus_replies.proofs.childbus_decode.Goals as goal
 
 pub returns-in_default : goal.returns-in_default
 unfolding decoded_left
-returns-in_default c = rw (lt-ltb 1 _ c.in_default.ensures.1)
+returns-in_default c = rw (c.decoded_number.ensures, lt-ltb 1 _ c.in_default.ensures.1)
 
 pub returns-in_default-answer : goal.returns-in_default-answer
 returns-in_default-answer c =
@@ -15,7 +15,7 @@ returns-in_default-answer c =
     c.in-Ok.ensures
     c.decode-answer.ensures
     c.in_default-answer.not-Reply
-    c.decoded_number.ensures
+    c.decoded_number-in_default-answer.ensures
 
 pub returns : goal.returns
 returns c =
