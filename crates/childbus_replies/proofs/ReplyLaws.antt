@@ -1,5 +1,5 @@
 -- From what the decoder and the version rule promise to what their calls of the boundary do.
-use Rattle.std.specs.Prelude.{Err}
+use Rattle.std.specs.Prelude.{Err, Option, Some, None}
 use mathlib.Core.Path.{◌≡◌, refl, sym, ap, ◌∙◌}
 use mathlib.Core.Bool.{cond}
 use mathlib.Core.List.{List}
@@ -20,7 +20,7 @@ use Rattle.fields.specs.Fields.{clipped}
 use Rattle.fields.proofs.Clipping.{version_rule-clipped}
 use Rattle.rules.specs.Buses.{bus_number}
 use Rattle.profile_bytes.proofs.BusLaws.{number_most, bus_of_number}
-use Rattle.childbus_replies.specs.ReplyBytes.{decoded_left, chosen_read}
+use Rattle.childbus_replies.specs.ReplyBytes.{decoded_left, results_at, ReadsLeft, chosen_read, reads_left}
 
 -- the decoder, on a bus that there is
 
@@ -58,6 +58,23 @@ chosen_results code asked first second =
     by_test (eqb (decoded_read code asked first).number 0)
     (λ e. rw e)
     (λ e. by_test (eqb (decoded_read code asked second).number 0) (λ g. rw (e, g)) (λ g. rw (e, g)))
+
+-- what two reads leave, by where the results of each lie
+abbrev pub placed : Option (ℕ × ℕ) → Option (ℕ × ℕ) → ReadsLeft
+placed (Some (start, len)) second = record { which = 1; start = start; len = len }
+placed None (Some (start, len)) = record { which = 2; start = start; len = len }
+placed None None = record { which = 0; start = 0; len = 0 }
+
+pub reads_placed : (code asked : ℕ) (first second : List ℕ) {p q : Option (ℕ × ℕ)}
+    → p ≡ results_at (decoded_read code asked first)
+    → q ≡ results_at (decoded_read code asked second)
+    → placed p q ≡ reads_left code asked first second
+unfolding results_at chosen_read which_read
+reads_placed code asked first second p-is q-is =
+    rw (p-is, q-is)
+    (by_test (eqb (decoded_read code asked first).number 0)
+    (λ e. rw e)
+    (λ e. by_test (eqb (decoded_read code asked second).number 0) (λ g. rw (e, g)) (λ g. rw (e, g))))
 
 -- the version rule at clipped numbers
 

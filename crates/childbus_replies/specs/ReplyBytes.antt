@@ -1,5 +1,5 @@
 -- The master's replies over bytes: number and single results, for any numbers of 32 bits and any bytes of any length.
-use Rattle.std.specs.Prelude.{◌≡◌, cond, List, ℕ, eqb, ltb}
+use Rattle.std.specs.Prelude.{◌≡◌, cond, List, ℕ, eqb, ltb, Option, Some, None}
 use Rattle.rules.specs.Master.{Decoding, unread, decoded, decoded_read, results_in, result_bytes, which_read}
 use Rattle.profile_bytes.specs.ProfileBytes.{bus_of}
 
@@ -14,6 +14,10 @@ pub record ReadsLeft : Type 0 where
   pub which : ℕ
   pub start : ℕ
   pub len : ℕ
+
+-- where the results of a read lie, if it decodes: from a place on, and how many
+unfoldable pub results_at : Decoding → Option (ℕ × ℕ)
+results_at d = cond (eqb d.number 0) (Some (d.start, d.len)) None
 
 -- the first read if that one decodes, else the second; no results if neither does
 unfoldable pub chosen_read : ℕ → ℕ → List ℕ → List ℕ → Decoding

@@ -4,8 +4,8 @@
 #![tactic(auto)]
 
 ghost use Rattle.std.specs.Prelude.{◌≡◌};
-ghost use Rattle.rules.specs.Master.{Decoding, Ruled, version_rule};
-ghost use Rattle.childbus_replies.specs.ReplyBytes.{decoded_left, ReadsLeft, reads_left, ReadsAgree};
+ghost use Rattle.rules.specs.Master.{Decoding, Ruled, version_rule, decoded_read};
+ghost use Rattle.childbus_replies.specs.ReplyBytes.{decoded_left, results_at, ReadsLeft, reads_left, ReadsAgree};
 
 use fields::clip;
 use numbers::{decoded_number, version_number};
@@ -53,6 +53,16 @@ pub fn childbus_decode(
     0
 }
 
+// Where the results of a read lie on I²C, from a place on and how many, if it decodes.
+fn results_at(code: usize, asked: usize, reply: &[u8]) -> Option<(usize, usize)>
+    ensures { result ≡ results_at (decoded_read code asked reply.now) }
+{
+    match decoder::decode::decode(Bus::I2c, code, 0, asked, reply) {
+        Decoded::Reply { start, len, .. } => Some((start, len)),
+        _ => None,
+    }
+}
+
 // One reply on I²C, read twice.
 pub fn childbus_two_reads(
     code: u32,
@@ -67,29 +77,19 @@ pub fn childbus_two_reads(
 {
     let code = code as usize;
     let asked = asked as usize;
-    let Decoded::Reply {
-        status: _,
-        start: from,
-        len: count,
-    } = decoder::decode::decode(Bus::I2c, code, 0, asked, first)
-    else {
-        let Decoded::Reply {
-            status: _,
-            start: again,
-            len: rest,
-        } = decoder::decode::decode(Bus::I2c, code, 0, asked, second)
-        else {
-            *start = 0;
-            *len = 0;
-            return 0;
-        };
+    if let Some((from, count)) = results_at(code, asked, first) {
+        *start = from;
+        *len = count;
+        return 1;
+    }
+    if let Some((again, rest)) = results_at(code, asked, second) {
         *start = again;
         *len = rest;
         return 2;
-    };
-    *start = from;
-    *len = count;
-    1
+    }
+    *start = 0;
+    *len = 0;
+    0
 }
 
 // These are the result bytes of the rules.
