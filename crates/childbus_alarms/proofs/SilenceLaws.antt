@@ -24,8 +24,8 @@ addressed-clipped own a =
     (λ e. let far : 255 < a = ltb-true 255 a e in rw (e, ne_eqb a 0 (λ q. omega arith), le-ltb a 128 (omega arith)))
     (λ e. rw e)
 
-pub verdict-clipped : (bus : Bus) (M : ℕ) (running : Bool) (own : Address) (a : ℕ) (f : List ℕ)
+pub verdict_clipped : (bus : Bus) (M : ℕ) (running : Bool) (own : Address) (a : ℕ) (f : List ℕ)
     → verdict bus M running own (clipped a) f ≡ verdict bus M running own a f
 unfolding verdict framing
-verdict-clipped I2c M running own a f = rw (zero-clipped a, addressed-clipped own a)
-verdict-clipped Rs485 M running own a f = refl
+verdict_clipped I2c M running own a f = rw (zero-clipped a, addressed-clipped own a)
+verdict_clipped Rs485 M running own a f = refl
