@@ -3,10 +3,9 @@ use mathlib.Core.Path.{◌≡◌, refl}
 use mathlib.Core.List.{List, [], ◌∷◌}
 use Prim.Native.Nat.{ℕ, ◌+◌, ◌≤◌}
 use native.Mathlib.Omega.{arith}
-use lib.ListN.{length}
-use Rattle.rules.specs.State.{Upload}
-use Rattle.lost_bytes.specs.Lost.{lost_byte, lost_from, lost_bytes}
-use Rattle.lost_bytes.proofs.LostLaws.{at_most_one}
+use lib.ListN.{length, take}
+use Rattle.lost_bytes.specs.Lost.{lost_byte, lost_from}
+use Rattle.lost_bytes.proofs.LostLaws.{at_most_one, length_part}
 
 lost_from_most : (flash : List ℕ) (first : ℕ) (waiting : List ℕ) (address : ℕ) (bytes : List ℕ)
     → lost_from flash first waiting address bytes ≤ length bytes
@@ -19,12 +18,8 @@ lost_from_most flash first waiting address (b ∷ bs) =
       lost_from_most flash first waiting (address + 1) bs,
     )
 
--- at most as many as waited before
-pub lost_most : (flash : List ℕ) (first : ℕ) (waiting : List ℕ) (address : ℕ) (bytes : List ℕ) {n : ℕ}
-    → n ≡ lost_from flash first waiting address bytes → n ≤ length bytes
-lost_most flash first waiting address bytes e = rw e (lost_from_most flash first waiting address bytes)
-
--- the bytes lost between equal uploads
-pub lost_same : {n O P : ℕ} {before after u v : Upload} (d : List ℕ) → n ≡ lost_bytes O before after d → O ≡ P → before ≡ u → after ≡ v
-    → n ≡ lost_bytes P u v d
-lost_same d e o p q = rw (← o, ← p, ← q) e
+-- at most as many as waited before, which are the first of the buffer's bytes
+pub lost_most : (flash : List ℕ) (first : ℕ) (waiting : List ℕ) (address held : ℕ) (bytes : List ℕ) {n : ℕ}
+    → n ≡ lost_from flash first waiting address (take held bytes) → n ≤ length bytes
+lost_most flash first waiting address held bytes e =
+    rw e (omega (arith, lost_from_most flash first waiting address (take held bytes), length_part held bytes))

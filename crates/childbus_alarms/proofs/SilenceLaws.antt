@@ -13,19 +13,19 @@ use Rattle.rules.specs.Frames.{addressed, framing, verdict}
 use Rattle.laws.proofs.TestLaws.{by_test}
 use Rattle.fields.specs.Fields.{clipped}
 
-zero-clipped : (a : ℕ) → eqb (clipped a) 0 ≡ eqb a 0
-zero-clipped a =
+zero_clipped : (a : ℕ) → eqb (clipped a) 0 ≡ eqb a 0
+zero_clipped a =
     by_test (ltb 255 a) (λ e. let far : 255 < a = ltb-true 255 a e in rw (e, ne_eqb a 0 (λ q. omega arith))) (λ e. rw e)
 
-addressed-clipped : (own : Address) (a : ℕ) → addressed I2c own (clipped a) ≡ addressed I2c own a
+addressed_clipped : (own : Address) (a : ℕ) → addressed I2c own (clipped a) ≡ addressed I2c own a
 unfolding addressed
-addressed-clipped own a =
+addressed_clipped own a =
     by_test (ltb 255 a)
     (λ e. let far : 255 < a = ltb-true 255 a e in rw (e, ne_eqb a 0 (λ q. omega arith), le-ltb a 128 (omega arith)))
     (λ e. rw e)
 
-pub verdict-clipped : (bus : Bus) (M : ℕ) (running : Bool) (own : Address) (a : ℕ) (f : List ℕ)
+pub verdict_clipped : (bus : Bus) (M : ℕ) (running : Bool) (own : Address) (a : ℕ) (f : List ℕ)
     → verdict bus M running own (clipped a) f ≡ verdict bus M running own a f
 unfolding verdict framing
-verdict-clipped I2c M running own a f = rw (zero-clipped a, addressed-clipped own a)
-verdict-clipped Rs485 M running own a f = refl
+verdict_clipped I2c M running own a f = rw (zero_clipped a, addressed_clipped own a)
+verdict_clipped Rs485 M running own a f = refl

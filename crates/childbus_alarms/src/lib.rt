@@ -7,6 +7,7 @@ ghost use Rattle.std.specs.Prelude.{◌≡◌};
 ghost use Rattle.lost_bytes.specs.Lost.{upload_of};
 ghost use Rattle.childbus_alarms.specs.Told.{SilenceTold};
 ghost use Rattle.childbus_alarms.specs.Silence.{silent, ignored_silence, command_silence, silence_of, silence_number};
+ghost use Rattle.childbus_alarms.specs.Code.{silence_code, told_code};
 ghost use Rattle.childbus_alarms.specs.AlarmBytes.{flag, upload_at, lost_number, erased_nothing_number, end_number, upload_end_number};
 ghost use Rattle.childbus_alarms.specs.AlarmBytes.{page_changed_number};
 
@@ -20,6 +21,28 @@ use state::{State, Upload};
 use state_bytes::{STATE_BYTES, WAITING_AT, head_from};
 use upload_ends::UploadEnd;
 
+// Why a received frame got no reply, with its number in C, where 0 means that it is no silence.
+#[derive(Clone, Copy, Debug, PartialEq, Eq)]
+enum Silence {
+    Running = 1,
+    Short = 2,
+    Long = 3,
+    Crc = 4,
+    Foreign = 5,
+    General = 6,
+    HardwareType = 7,
+    Reset = 8,
+    Start = 9,
+}
+
+impl Silence {
+    fn number(self) -> u32
+        ensures { result ≡ silence_code self }
+    {
+        self as u32
+    }
+}
+
 // Whether a board call's number means that nothing was sent.
 fn silent(number: u32) -> bool
     ensures { result ≡ silent number }
@@ -28,45 +51,51 @@ fn silent(number: u32) -> bool
 }
 
 // Why a frame is ignored.
-fn ignored_silence(reason: Reason) -> u32
-    ensures { result ≡ ignored_silence reason }
+fn ignored_silence(reason: Reason) -> Silence
+    ensures { silence_code result ≡ ignored_silence reason }
 {
     match reason {
-        Reason::Running => 1,
-        Reason::Short => 2,
-        Reason::Long => 3,
-        Reason::WrongSum => 4,
-        Reason::Foreign(_) => 5,
-        Reason::OtherGeneral => 6,
+        Reason::Running => Silence::Running,
+        Reason::Short => Silence::Short,
+        Reason::Long => Silence::Long,
+        Reason::WrongSum => Silence::Crc,
+        Reason::Foreign(_) => Silence::Foreign,
+        Reason::OtherGeneral => Silence::General,
     }
 }
 
 // Why a command has no reply.
-fn command_silence(command: u8) -> u32
-    ensures { result ≡ command_silence command }
+fn command_silence(command: u8) -> Option<Silence>
+    ensures { told_code result ≡ command_silence command }
 {
     match command {
-        0x01 => 7,
-        0x05 => 9,
-        _ => 0,
+        0x01 => Some(Silence::HardwareType),
+        0x05 => Some(Silence::Start),
+        _ => None,
     }
 }
 
 // Why a frame with this verdict and command has no reply.
-fn silence_of(v: Verdict, command: u8) -> u32
-    ensures { result ≡ silence_of v command }
+fn silence_of(v: Verdict, command: u8) -> Option<Silence>
+    ensures { told_code result ≡ silence_of v command }
 {
     match v {
-        Verdict::Reset => 8,
-        Verdict::ResetAddress => 8,
-        Verdict::Ignored(reason) => ignored_silence(reason),
-        Verdict::BadTransfer => 0,
-        Verdict::BadSum => 0,
+        Verdict::Reset | Verdict::ResetAddress => Some(Silence::Reset),
+        Verdict::Ignored(reason) => Some(ignored_silence(reason)),
+        Verdict::BadTransfer | Verdict::BadSum => None,
         Verdict::Command => command_silence(command),
     }
 }
 
+// The number of a silence; 0 where there is none.
+fn told(silence: Option<Silence>) -> u32
+    ensures { result ≡ told_code silence }
+{
+    silence.map_or(0, Silence::number)
+}
+
 // Why a received frame got no reply.
+#[tactic(auto, using(crate::proofs::SilenceLaws::verdict_clipped), unfolding(crate::specs::Silence::silence_number))]
 pub fn childbus_silence(
     profile: &[u8],
     state: &[u8],
@@ -84,7 +113,7 @@ pub fn childbus_silence(
     let h = head_from(state);
     let own = h.address;
     let v = verdict::classify(bus, p.longest, h.running, own, clip(address), frame);
-    silence_of(v, byte_or(frame, header_length(bus), 0))
+    told(silence_of(v, byte_or(frame, header_length(bus), 0)))
 }
 
 // Each silence of the board has its reason, and nothing else has one.
@@ -114,6 +143,7 @@ fn upload_from(b: &[u8]) -> Upload
 }
 
 // How many bytes are lost.
+#[tactic(auto, using(crate::proofs::AlarmLaws::lost_most), unfolding(crate::specs::AlarmBytes::lost_number))]
 pub fn childbus_lost(profile: &[u8], before: &[u8], after: &[u8], flash: &[u8]) -> u32
     ensures { result ≡ lost_number profile.now before.now after.now flash.now }
 {
@@ -126,10 +156,11 @@ pub fn childbus_lost(profile: &[u8], before: &[u8], after: &[u8], flash: &[u8]) 
 fn flag(b: bool) -> u32
     ensures { result ≡ flag b }
 {
-    if b { 1 } else { 0 }
+    u32::from(b)
 }
 
 // A finalize that erased nothing.
+#[tactic(auto, unfolding(crate::specs::AlarmBytes::erased_nothing_number))]
 pub fn childbus_erased_nothing(
     profile: &[u8],
     frame: &[u8],
@@ -156,6 +187,7 @@ fn end_number(e: UploadEnd) -> u32
 }
 
 // What the flash holds at the end of an upload.
+#[tactic(auto, unfolding(crate::specs::AlarmBytes::upload_end_number))]
 pub fn childbus_upload_end(profile: &[u8], image: &[u8], earlier: &[u8], flash: &[u8]) -> u32
     ensures { result ≡ upload_end_number profile.now image.now earlier.now flash.now }
 {
@@ -164,6 +196,7 @@ pub fn childbus_upload_end(profile: &[u8], image: &[u8], earlier: &[u8], flash: 
 }
 
 // A page that changed.
+#[tactic(auto, unfolding(crate::specs::AlarmBytes::page_changed_number))]
 pub fn childbus_page_changed(profile: &[u8], page: u32, earlier: &[u8], flash: &[u8]) -> u32
     ensures { result ≡ page_changed_number profile.now page earlier.now flash.now }
 {
