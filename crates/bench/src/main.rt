@@ -7,8 +7,8 @@ use crate::run::{LONGEST_LINE, run_next_line};
 use bench_exchange::session::Session;
 use bench_output::Output;
 use bench_script::fields::is;
-use bench_script::image::opened;
-use bench_settings::shown::{status, tell_end};
+use bench_script::image::{opened, path_text};
+use bench_settings::shown::{ScriptStatus, status, tell_end};
 use std::env::{Env, FillError};
 use std::fs::{File, Files};
 use std::io::{ErrorKind, IsTerminal, Stdin, Write};
@@ -16,9 +16,6 @@ use std::process::ExitCode;
 use std::{fs, io};
 
 mod run;
-
-// The status of a script that cannot be read.
-const UNREAD: u8 = 2;
 
 // The most bytes of a path, and one more.
 const LONGEST_PATH: usize = 4096;
@@ -28,7 +25,7 @@ fn run_script(
     session: &mut Session,
     files: &impl Files,
     input: &mut (impl io::Read + IsTerminal),
-) -> u8 {
+) -> ScriptStatus {
     session.bench.typed = input.is_terminal();
     if session.bench.typed {
         session.output.say("  help lists the lines, quit ends\n");
@@ -55,16 +52,13 @@ fn argument<'a>(env: &impl Env, at: usize, path: &'a mut [u8]) -> Option<&'a [u8
     }
 }
 
-// A file by its name, which is made or emptied. One whose name is no text cannot be made.
+// A file by its name, which is made or emptied.
 fn created<F: Files>(files: &F, name: &[u8]) -> io::Result<F::File> {
-    match str::from_utf8(name) {
-        Ok(path) => fs::create(files, path),
-        Err(_) => Err(io::Error::from(ErrorKind::InvalidFilename)),
-    }
+    fs::create(files, path_text(name)?)
 }
 
 // Writes the status to the file that the argument at a place names, if there is one.
-fn write_status(output: &mut Output, rt: &(impl Env + Files), at: usize, status: u8) {
+fn write_status(output: &mut Output, rt: &(impl Env + Files), at: usize, status: ScriptStatus) {
     let mut path = [0u8; LONGEST_PATH];
     let Some(name) = argument(rt, at, &mut path) else {
         return;
@@ -72,25 +66,30 @@ fn write_status(output: &mut Output, rt: &(impl Env + Files), at: usize, status:
     let Ok(mut file) = created(rt, name) else {
         return output.say("the status cannot be written\n");
     };
-    let done = write!(file, "{status}");
+    let number = status as u8;
+    let done = write!(file, "{number}");
     output.note(done);
 }
 
 // The script in a file; its status.
-fn run_file(session: &mut Session, files: &impl Files<File = File>, path: &[u8]) -> u8 {
+fn run_file(session: &mut Session, files: &impl Files<File = File>, path: &[u8]) -> ScriptStatus {
     match opened(files, path) {
         Ok(mut file) => run_script(session, files, &mut file),
         Err(_) => {
             session.output.say("the script ");
             session.output.say_raw(path);
             session.output.say(" cannot be opened\n");
-            UNREAD
+            ScriptStatus::Unread
         }
     }
 }
 
 // The script that the first argument names; `-` or none is standard input.
-fn run_named(session: &mut Session, rt: &(impl Env + Files<File = File>), mut stdin: Stdin) -> u8 {
+fn run_named(
+    session: &mut Session,
+    rt: &(impl Env + Files<File = File>),
+    mut stdin: Stdin,
+) -> ScriptStatus {
     let mut path = [0u8; LONGEST_PATH];
     match argument(rt, 1, &mut path) {
         Some(name) if !is(name, "-") => run_file(session, rt, name),

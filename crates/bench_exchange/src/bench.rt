@@ -14,11 +14,7 @@ pub struct Damage {
 impl Damage {
     // The byte that is to be damaged now.
     pub fn due(self) -> Option<usize> {
-        if self.after == 0 {
-            Some(self.byte)
-        } else {
-            None
-        }
+        (self.after == 0).then_some(self.byte)
     }
 
     // What is left of it once a frame or a reply has passed.

@@ -25,7 +25,7 @@ pub struct Memory {
     image: Vec<u8>,
 }
 
-// Copies bytes to a place of the same length.
+// Copies bytes to a place of the same length; to any other it copies nothing.
 pub(crate) fn copy(to: &mut [u8], from: &[u8]) {
     if to.len() == from.len() {
         to.copy_from_slice(from);

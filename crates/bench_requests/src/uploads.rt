@@ -69,7 +69,8 @@ fn for_pieces<F: FnMut(usize, usize) -> Result<(), Failed>>(
 ) -> Result<(), Failed>
     requires { F.IsAlwaysCallable step }
 {
-    for at in (0..all).step_by(piece.max(1)) {
+    let piece = piece.max(1);
+    for at in (0..all).step_by(piece) {
         step(at, at.saturating_add(piece).min(all))?;
     }
     Ok(())
@@ -127,7 +128,7 @@ fn read_piece(session: &mut Session, at: usize, end: usize) -> Result<(), Failed
 // The whole image, read back.
 fn read_all(session: &mut Session, all: usize) -> Result<(), Failed> {
     let most = longest_read(session.bench.bus(), session.bench.profile.longest);
-    for_pieces(all, most.max(1), |at, end| read_piece(session, at, end))
+    for_pieces(all, most, |at, end| read_piece(session, at, end))
 }
 
 // All frames, finalize, and the image read back.

@@ -25,12 +25,14 @@ fn unusable(output: &mut Output, name: &[u8], reason: impl Display + Drop) -> Fa
     Fault::Unusable
 }
 
-// A file by its name. One whose name is no text cannot be opened.
+// The name of a file as text. One that is no text names no file.
+pub fn path_text(name: &[u8]) -> io::Result<&str> {
+    str::from_utf8(name).map_err(|_| io::Error::from(ErrorKind::InvalidFilename))
+}
+
+// A file by its name.
 pub fn opened<F: Files>(files: &F, name: &[u8]) -> io::Result<F::File> {
-    match str::from_utf8(name) {
-        Ok(path) => fs::open(files, path),
-        Err(_) => Err(io::Error::from(ErrorKind::InvalidFilename)),
-    }
+    fs::open(files, path_text(name)?)
 }
 
 // Why a file was not opened.

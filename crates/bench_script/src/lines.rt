@@ -16,7 +16,7 @@ pub enum Line<'a> {
 fn read_byte(input: &mut impl io::Read) -> io::Result<Option<u8>> {
     let mut byte = [0];
     let got = input.read(&mut byte)?;
-    Ok(if got == 0 { None } else { Some(byte[0]) })
+    Ok((got != 0).then_some(byte[0]))
 }
 
 // A line of n bytes, if the buffer has them all.
@@ -30,6 +30,7 @@ fn whole<'a>(line: &'a mut [u8], n: usize) -> Line<'a> {
 // The next line, kept in the buffer. The last one may lack its line feed. std's read_until would keep all of a line, however long.
 pub fn read_line<'a>(input: &mut impl io::Read, line: &'a mut [u8]) -> io::Result<Line<'a>> {
     let mut n: usize = 0;
+    // nothing says that the input ends, so the bytes are counted up to a number that no line reaches
     for _ in 0..u64::MAX {
         match read_byte(input)? {
             None if n == 0 => return Ok(Line::End),

@@ -65,16 +65,12 @@ fn times_mark(n: u8) -> char {
 // The page with waiting bytes, if there is one.
 fn waiting_page(bench: &Bench) -> Option<usize> {
     let upload = &bench.state.upload;
-    if upload.held == 0 {
-        None
-    } else {
-        Some(upload.next / page_size(bench.profile))
-    }
+    (upload.held != 0).then_some(upload.next / page_size(bench.profile))
 }
 
-// The mark of a page.
-fn mark(page: usize, bench: &Bench, memory: &Memory) -> char {
-    if waiting_page(bench) == Some(page) {
+// The mark of a page, where bytes of one may wait.
+fn mark(page: usize, waiting: Option<usize>, memory: &Memory) -> char {
+    if waiting == Some(page) {
         'w'
     } else {
         times_mark(memory.times(page))
@@ -95,6 +91,7 @@ fn margin(output: &mut Output, size: usize, page: usize) {
 
 fn show_map(session: &mut Session) {
     let size = page_size(session.bench.profile);
+    let waiting = waiting_page(&session.bench);
     let output = &mut session.output;
     output.tell(format_args!(
         "  a mark for each page of {size} bytes: . untouched, 1 to 9 rewritten so often, + more often, w bytes wait\n"
@@ -102,7 +99,7 @@ fn show_map(session: &mut Session) {
     let pages = (session.bench.profile.size / size).min(PAGES);
     for page in 0..pages {
         margin(output, size, page);
-        output.tell(mark(page, &session.bench, &session.memory));
+        output.tell(mark(page, waiting, &session.memory));
     }
     output.say("\n");
 }
@@ -160,7 +157,7 @@ fn tell_wrong(output: &mut Output, wrong: usize, lines: usize) {
 
 // Says at the end what still waits, what was lost, what got no reply, what failed, and how many lines were not understood.
 pub fn tell_end(output: &mut Output, bench: &Bench) {
-    if status(bench) == 0 {
+    if status(bench) == ScriptStatus::Fine {
         return;
     }
     output.say("  the script ends\n");
@@ -183,14 +180,25 @@ fn is_alarmed(bench: &Bench) -> bool {
     ] != [0; 4]
 }
 
-// The status of the whole script: 1 if a line was not understood, 3 if an alarm stood, else 0.
-pub fn status(bench: &Bench) -> u8 {
+// The status of a whole script, by its number.
+#[derive(Clone, Copy, PartialEq, Eq, Debug)]
+pub enum ScriptStatus {
+    Fine = 0,
+    // a line was not understood
+    Wrong = 1,
+    // the script cannot be read
+    Unread = 2,
+    // an alarm stood
+    Alarmed = 3,
+}
+
+pub fn status(bench: &Bench) -> ScriptStatus {
     if 0 < bench.wrong {
-        1
+        ScriptStatus::Wrong
     } else if is_alarmed(bench) {
-        3
+        ScriptStatus::Alarmed
     } else {
-        0
+        ScriptStatus::Fine
     }
 }
 

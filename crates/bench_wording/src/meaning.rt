@@ -153,7 +153,7 @@ pub fn tell_refused_arguments(output: &mut Output, bus: Bus, code: usize) {
 
 // Why no reply comes.
 #[derive(Clone, Copy, PartialEq, Eq, Debug)]
-enum Silence {
+enum SilenceReason {
     // The board is alive, and takes no such frame.
     Running,
     TooShort,
@@ -169,64 +169,65 @@ enum Silence {
 }
 
 // Why a frame that is answered 1 is ignored; on I2C it is for another board. The reasons of RS485 have numbers of their own.
-fn ignored_for(reason: Reason) -> Silence {
+fn ignored_for(reason: Reason) -> SilenceReason {
     match reason {
-        Reason::Running => Silence::Running,
-        Reason::OtherGeneral => Silence::OtherGeneral,
-        _ => Silence::OtherAddress,
+        Reason::Running => SilenceReason::Running,
+        Reason::OtherGeneral => SilenceReason::OtherGeneral,
+        _ => SilenceReason::OtherAddress,
     }
 }
 
 // Why a frame is answered 1.
-fn why_silent(v: Verdict, code: usize) -> Silence {
+fn why_silent(v: Verdict, code: usize) -> SilenceReason {
     match v {
-        Verdict::Reset | Verdict::ResetAddress => Silence::GeneralCall,
+        Verdict::Reset | Verdict::ResetAddress => SilenceReason::GeneralCall,
         Verdict::Ignored(reason) => ignored_for(reason),
-        Verdict::Command if code == 0x01 => Silence::OtherType,
-        Verdict::Command if code == 0x05 => Silence::Start,
-        Verdict::Command | Verdict::BadTransfer | Verdict::BadSum => Silence::Other,
+        Verdict::Command if code == 0x01 => SilenceReason::OtherType,
+        Verdict::Command if code == 0x05 => SilenceReason::Start,
+        Verdict::Command | Verdict::BadTransfer | Verdict::BadSum => SilenceReason::Other,
     }
 }
 
 // A silence in words. What stands between `**` must not be taken for a dead board.
-fn silence_meaning(silence: Silence) -> &'static str {
+fn silence_meaning(silence: SilenceReason) -> &'static str {
     match silence {
-        Silence::Running => "  ** no reply: the application runs, the board is alive **\n",
-        Silence::TooShort => {
+        SilenceReason::Running => "  ** no reply: the application runs, the board is alive **\n",
+        SilenceReason::TooShort => {
             "  ** no reply: the frame is shorter than any request, the board is alive **\n"
         }
-        Silence::TooLong => "  ** no reply: the frame is longer than M, the board is alive **\n",
-        Silence::SumWrong => "  ** no reply: the check sum is wrong, the board is alive **\n",
-        Silence::OtherAddress => {
+        SilenceReason::TooLong =>
+            "  ** no reply: the frame is longer than M, the board is alive **\n",
+        SilenceReason::SumWrong => "  ** no reply: the check sum is wrong, the board is alive **\n",
+        SilenceReason::OtherAddress => {
             "  ** no reply: the address is another board's, this board is alive **\n"
         }
-        Silence::OtherGeneral => {
+        SilenceReason::OtherGeneral => {
             "  ** no reply: all boards take only reset and reset-address, the board is alive **\n"
         }
-        Silence::OtherType => {
+        SilenceReason::OtherType => {
             "  ** no reply: the hardware type is another board's, this board is alive **\n"
         }
-        Silence::GeneralCall => "  a general call goes to all boards: none replies\n",
-        Silence::Start => "  start has no reply\n",
-        Silence::Other => "  no reply\n",
+        SilenceReason::GeneralCall => "  a general call goes to all boards: none replies\n",
+        SilenceReason::Start => "  start has no reply\n",
+        SilenceReason::Other => "  no reply\n",
     }
 }
 
 // What to do about it; nothing where something was done.
-fn advice(silence: Silence) -> &'static str {
+fn advice(silence: SilenceReason) -> &'static str {
     match silence {
-        Silence::Running => "    do: only reset brings the bootloader back\n",
-        Silence::TooShort => "    do: send it whole, without a break\n",
-        Silence::TooLong => {
+        SilenceReason::Running => "    do: only reset brings the bootloader back\n",
+        SilenceReason::TooShort => "    do: send it whole, without a break\n",
+        SilenceReason::TooLong => {
             "    do: send shorter frames, with a gap between them; ask for M with: longest\n"
         }
-        Silence::SumWrong => {
+        SilenceReason::SumWrong => {
             "    do: send the frame again; on RS485 a damaged frame is never answered\n"
         }
-        Silence::OtherAddress => "    do: see where this board listens, with: state\n",
-        Silence::OtherGeneral => "    do: send commands to the board's own address\n",
-        Silence::OtherType => "    do: send this board's type, or type 0 for any\n",
-        Silence::GeneralCall | Silence::Start | Silence::Other => "",
+        SilenceReason::OtherAddress => "    do: see where this board listens, with: state\n",
+        SilenceReason::OtherGeneral => "    do: send commands to the board's own address\n",
+        SilenceReason::OtherType => "    do: send this board's type, or type 0 for any\n",
+        SilenceReason::GeneralCall | SilenceReason::Start | SilenceReason::Other => "",
     }
 }
 
@@ -255,16 +256,16 @@ fn tell_silence(output: &mut Output, v: Verdict, code: usize) -> bool {
     let silence = why_silent(v, code);
     output.say(silence_meaning(silence));
     output.say(advice(silence));
-    ignored(v) || silence == Silence::OtherType
+    ignored(v) || silence == SilenceReason::OtherType
 }
 
 // Why a frame that RS485 drops gets no reply; nothing for any other answer.
-fn dropped(o: Outcome) -> Option<Silence> {
+fn dropped(o: Outcome) -> Option<SilenceReason> {
     match o {
-        Outcome::FrameTooShort => Some(Silence::TooShort),
-        Outcome::FrameTooLong => Some(Silence::TooLong),
-        Outcome::FrameSumWrong => Some(Silence::SumWrong),
-        Outcome::FrameForeign => Some(Silence::OtherAddress),
+        Outcome::FrameTooShort => Some(SilenceReason::TooShort),
+        Outcome::FrameTooLong => Some(SilenceReason::TooLong),
+        Outcome::FrameSumWrong => Some(SilenceReason::SumWrong),
+        Outcome::FrameForeign => Some(SilenceReason::OtherAddress),
         _ => None,
     }
 }

@@ -25,7 +25,7 @@ pub struct RequestResult {
 }
 
 // The byte at a place; 0 where there is none.
-pub fn one(s: &[u8], at: usize) -> u8 {
+fn one(s: &[u8], at: usize) -> u8 {
     s.get(at).copied().unwrap_or(0)
 }
 

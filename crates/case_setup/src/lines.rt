@@ -3,6 +3,7 @@ use profile::Profile;
 use rules::kinds::{Address, Bus};
 use rules::requests::Request;
 use state::{Last, State, Upload};
+use std::num::TryFromIntError;
 use tally::Tally;
 use text::read::Fields;
 
@@ -144,14 +145,9 @@ pub struct Strings<'a> {
     pub second: &'a mut [u8],
 }
 
-// A number that is at most 255.
-fn byte(fields: &mut Fields<'_>) -> Option<u8> {
-    u8::try_from(fields.number(MOST)?).ok()
-}
-
-// A number that is at most 65,535.
-fn counter(fields: &mut Fields<'_>) -> Option<u16> {
-    u16::try_from(fields.number(MOST)?).ok()
+// A number, if its type has it.
+fn number<T: TryFrom<usize, Error = TryFromIntError>>(fields: &mut Fields<'_>) -> Option<T> {
+    T::try_from(fields.number(MOST)?).ok()
 }
 
 // 0 I²C, 1 RS485
@@ -181,24 +177,21 @@ fn string<'a>(fields: &mut Fields<'_>, room: &'a mut [u8]) -> Option<&'a [u8]> {
 fn whole<const N: usize>(fields: &mut Fields<'_>) -> Option<[u8; N]> {
     let mut room = [0; N];
     let len = fields.hex(&mut room)?;
-    if len == N { Some(room) } else { None }
+    (len == N).then_some(room)
 }
 
 // P bus M page S O hardware compatible actual version serial
 fn profile_line(fields: &mut Fields<'_>) -> Option<Profile> {
     let bus = bus(fields)?;
     let [longest, page, size, offset] = fields.numbers::<4>(MOST)?;
-    let hardware = byte(fields)?;
-    let compatible = byte(fields)?;
-    let actual = byte(fields)?;
-    let version = byte(fields)?;
+    let hardware = number(fields)?;
+    let compatible = number(fields)?;
+    let actual = number(fields)?;
+    let version = number(fields)?;
     let mut given = [0; 40];
     let seriallen = fields.hex(&mut given)?;
     // a longer serial is out of range by its length
-    let mut serial = [0u8; Profile::LONGEST_SERIAL];
-    for (place, byte) in serial.iter_mut().zip(given.iter()) {
-        *place = *byte;
-    }
+    let serial = *given.first_chunk()?;
     Some(Profile {
         bus,
         longest,
@@ -248,11 +241,11 @@ fn state_line(fields: &mut Fields<'_>) -> Option<State> {
 // K short long crc foreign answered
 fn tally_line(fields: &mut Fields<'_>) -> Option<Tally> {
     Some(Tally {
-        short: counter(fields)?,
-        long: counter(fields)?,
-        sum: counter(fields)?,
-        foreign: counter(fields)?,
-        answered: counter(fields)?,
+        short: number(fields)?,
+        long: number(fields)?,
+        sum: number(fields)?,
+        foreign: number(fields)?,
+        answered: number(fields)?,
     })
 }
 
@@ -318,15 +311,15 @@ fn reset_line<'a>(fields: &mut Fields<'_>) -> Option<MasterCall<'a>> {
     Some(MasterCall::Reset {
         bus: bus(fields)?,
         longest: fields.number(MOST)?,
-        major: byte(fields)?,
-        minor: byte(fields)?,
+        major: number(fields)?,
+        minor: number(fields)?,
     })
 }
 
 // address frame
 fn frame_of<'a>(fields: &mut Fields<'_>, room: &'a mut [u8]) -> Option<Frame<'a>> {
     Some(Frame {
-        address: byte(fields)?,
+        address: number(fields)?,
         bytes: string(fields, room)?,
     })
 }
@@ -346,14 +339,14 @@ fn line_of<'a>(letter: Letter, fields: &mut Fields<'_>, strings: Strings<'a>) ->
             strings.first,
         )?)),
         Letter::Read => Line::Board(BoardCall::Read {
-            address: byte(fields)?,
+            address: number(fields)?,
         }),
         Letter::Encode => Line::Master(encode_line(fields, strings.first)?),
         Letter::Decode => Line::Master(decode_line(fields, strings.first)?),
         Letter::TwoReads => Line::Master(two_reads_line(fields, strings)?),
         Letter::Version => Line::Master(MasterCall::Version {
-            major: byte(fields)?,
-            minor: byte(fields)?,
+            major: number(fields)?,
+            minor: number(fields)?,
         }),
         Letter::Reset => Line::Master(reset_line(fields)?),
     })
@@ -366,5 +359,5 @@ pub fn read_line<'a>(
     strings: Strings<'a>,
 ) -> Option<Line<'a>> {
     let line = line_of(letter, &mut fields, strings)?;
-    if fields.is_read() { Some(line) } else { None }
+    fields.is_read().then_some(line)
 }
