@@ -9,13 +9,12 @@ ghost use Rattle.rules.specs.Responses.{Acted};
 ghost use Rattle.rules.specs.Board.{finished_call};
 ghost use Rattle.state.specs.View.{view};
 ghost use Rattle.state.specs.Heads.{state_with, kept_reply};
-ghost use Rattle.response.specs.Codes.{status_code};
 ghost use Rattle.response.specs.Done as buffered;
 ghost use Rattle.answer.specs.Answered.{ignored_outcome, expected_effect};
 ghost use Rattle.answer.specs.HeadAnswered.{silent, head_effect, Fits};
 
 use frame::reply::close;
-use response::{Done, Response, Status};
+use response::{Done, Response};
 use rules::kinds::{Bus, Outcome, Reason};
 use state::{Head, State};
 
@@ -75,16 +74,13 @@ pub fn respond(bus: Bus, to: u8, done: Done, out: &mut [u8]) -> Answer<Head>
 }
 
 // A status with no results; the state stays.
-pub fn fault(bus: Bus, to: u8, h: Head, status: Status, out: &mut [u8]) -> Answer<Head>
+pub fn fault(bus: Bus, to: u8, h: Head, status: u8, out: &mut [u8]) -> Answer<Head>
     requires { 32 ≤ length out.old }
     ensures { (w l d : List ℕ) → head_effect bus result w l d out.new
-        ≡ expected_effect (finished_call bus to (responses.replying (view (state_with h w l)) d (status_code status) [])) out.old }
+        ≡ expected_effect (finished_call bus to (responses.replying (view (state_with h w l)) d status [])) out.old }
 {
     let done = Done {
-        response: Some(Response {
-            status: status.code(),
-            count: 0,
-        }),
+        response: Some(Response { status, count: 0 }),
         head: h,
     };
     respond(bus, to, done, out)

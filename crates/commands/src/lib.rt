@@ -32,10 +32,10 @@ pub fn execute(
 {
     let row = arguments::row(code);
     if !arguments::row_serves(row) {
-        return response::reply(h, Status::CommandNotSupported, &[], out, at);
+        return response::reply(h, Status::CommandNotSupported.code(), &[], out, at);
     }
     if !arguments::row_allows(row, args.len()) {
-        return response::reply(h, Status::InvalidArguments, &[], out, at);
+        return response::reply(h, Status::InvalidArguments.code(), &[], out, at);
     }
     perform(p, h, code, args, waiting, flash, out, at)
 }

@@ -20,7 +20,7 @@ pub fn version(h: Head, out: &mut [u8], at: usize) -> Done
     ensures { (w l d : List ℕ) → command_effect result w l d out.new
         ≡ ruled_command (replying (view (state_with h w l)) d ok (2 ∷ 2 ∷ [])) out.old at }
 {
-    reply(h, Status::Ok, &[2, 2], out, at)
+    reply(h, Status::Ok.code(), &[2, 2], out, at)
 }
 
 // 0x03 hardware info: type and compatible revision, bootloader version, two-byte S.
@@ -32,7 +32,7 @@ pub fn hardware_info(p: Profile, h: Head, out: &mut [u8], at: usize) -> Done
     let size = two_bytes(p.size);
     reply(
         h,
-        Status::Ok,
+        Status::Ok.code(),
         &[p.hardware, p.compatible, p.version, size[0], size[1]],
         out,
         at,
@@ -47,10 +47,10 @@ pub fn serial(p: Profile, h: Head, out: &mut [u8], at: usize) -> Done
 {
     let len = p.seriallen;
     if len == 0 {
-        return reply(h, Status::CommandNotSupported, &[], out, at);
+        return reply(h, Status::CommandNotSupported.code(), &[], out, at);
     }
     let bytes = p.serial;
-    reply(h, Status::Ok, &bytes[..len], out, at)
+    reply(h, Status::Ok.code(), &bytes[..len], out, at)
 }
 
 // 0x09 actual revision.
@@ -59,5 +59,5 @@ pub fn revision(p: Profile, h: Head, out: &mut [u8], at: usize) -> Done
     ensures { (w l d : List ℕ) → command_effect result w l d out.new
         ≡ ruled_command (replying (view (state_with h w l)) d ok (p.actual ∷ [])) out.old at }
 {
-    reply(h, Status::Ok, &[p.actual], out, at)
+    reply(h, Status::Ok.code(), &[p.actual], out, at)
 }

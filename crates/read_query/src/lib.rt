@@ -33,13 +33,13 @@ pub fn read(p: Profile, h: Head, args: &[u8], flash: &[u8], out: &mut [u8], at: 
     let address = number_at(args, 0);
     let n = wide(args[2]);
     if p.size < address + n {
-        return reply(h, Status::InvalidArguments, &[], out, at);
+        return reply(h, Status::InvalidArguments.code(), &[], out, at);
     }
     let bus = p.bus;
     if longest_results(bus, p.longest) < n {
-        return reply(h, Status::InvalidArguments, &[], out, at);
+        return reply(h, Status::InvalidArguments.code(), &[], out, at);
     }
     let start = p.offset + address;
     let end = start + n;
-    reply(h, Status::Ok, &flash[start..end], out, at)
+    reply(h, Status::Ok.code(), &flash[start..end], out, at)
 }

@@ -44,18 +44,15 @@ pub struct Done {
 }
 
 // A status and its results; the state stays.
-pub fn reply(h: Head, status: Status, results: &[u8], out: &mut [u8], at: usize) -> Done
+pub fn reply(h: Head, status: u8, results: &[u8], out: &mut [u8], at: usize) -> Done
     requires { at + length results.now ≤ length out.old }
     ensures { (w l d : List ℕ) → command_effect result w l d out.new
-        ≡ ruled_command (replying (view (state_with h w l)) d (status_code status) results.now) out.old at }
+        ≡ ruled_command (replying (view (state_with h w l)) d status results.now) out.old at }
 {
     let count = results.len();
     byte_slices::store(out, at, results);
     Done {
-        response: Some(Response {
-            status: status.code(),
-            count,
-        }),
+        response: Some(Response { status, count }),
         head: h,
     }
 }
@@ -67,5 +64,5 @@ pub fn reply_number(h: Head, n: usize, out: &mut [u8], at: usize) -> Done
         ≡ ruled_command (replying (view (state_with h w l)) d ok (two_bytes n)) out.old at }
 {
     let bytes = two_bytes(n);
-    reply(h, Status::Ok, &bytes, out, at)
+    reply(h, Status::Ok.code(), &bytes, out, at)
 }

@@ -45,9 +45,15 @@ pub fn set_address(p: Profile, h: Head, args: &[u8], out: &mut [u8], at: usize) 
     let bus = p.bus;
     let own = address_taken(bus, args[0]);
     if addressing::reserved(bus, own as usize) {
-        return response::reply(h, Status::InvalidArguments, &[], out, at);
+        return response::reply(h, Status::InvalidArguments.code(), &[], out, at);
     }
-    response::reply(h.with_address(Address::Own(own)), Status::Ok, &[], out, at)
+    response::reply(
+        h.with_address(Address::Own(own)),
+        Status::Ok.code(),
+        &[],
+        out,
+        at,
+    )
 }
 
 // 0x05 start: no reply, running, waiting bytes lost.

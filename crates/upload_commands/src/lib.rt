@@ -35,10 +35,10 @@ pub fn write(
     let counts = h.counts;
     let bytes = &args[2..];
     if !accepts(p.size, counts.next, address, bytes.len()) {
-        return response::reply(h, Status::InvalidArguments, &[], out, at);
+        return response::reply(h, Status::InvalidArguments.code(), &[], out, at);
     }
     let taken = upload::take(p, restart(counts, address), bytes, waiting, flash);
-    response::reply(h.with_counts(taken), Status::Ok, &[], out, at)
+    response::reply(h.with_counts(taken), Status::Ok.code(), &[], out, at)
 }
 
 // 0x07 finalize: results are the erase count in two bytes.

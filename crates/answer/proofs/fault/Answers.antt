@@ -6,7 +6,6 @@ use Rattle.laws.proofs.SizeLaws.{shortest_reply-le}
 use Rattle.laws.proofs.BytesLaws.{overlay_none}
 use Rattle.state.specs.View.{view}
 use Rattle.state.specs.Heads.{state_with}
-use Rattle.response.specs.Codes.{status_code}
 use Rattle.answer.proofs.fault.Goals as goal
 
 pub respond-requires : goal.respond-requires
@@ -15,5 +14,5 @@ respond-requires c = (omega (arith, shortest_reply-le c.args.bus), omega (arith,
 pub returns : goal.returns
 returns c =
     λ w l d.
-    c.respond.ensures (replying (view (state_with c.args.h w l)) d (status_code c.args.status) []) w l d c.args.out.now refl
-    (rw (c.code.ensures, overlay_none c.args.out.now (header_length c.args.bus + 2)))
+    c.respond.ensures (replying (view (state_with c.args.h w l)) d c.args.status []) w l d c.args.out.now refl
+    (rw (overlay_none c.args.out.now (header_length c.args.bus + 2)))

@@ -15,7 +15,7 @@ returns-then-not-row_serves c =
     record {
       ruled = λ l.
           rw (← row-served c.args.code c.row-row.result c.row-row.ensures s.ensures, c.if-not-row_serves.true)
-          (c.reply.ensures c.args.waiting.now l c.args.flash.now);
+          (rw c.code.ensures at (c.reply.ensures c.args.waiting.now l c.args.flash.now));
       behind = refl;
     }
 
@@ -36,7 +36,7 @@ returns-then-not-row_allows c =
             ← row_allowed c.args.code row.result row.ensures _ a.ensures,
             c.if-not-row_allows.true,
           )
-          (c.reply-then-not-row_allows.ensures c.args.waiting.now l c.args.flash.now);
+          (rw c.code-then-not-row_allows.ensures at (c.reply-then-not-row_allows.ensures c.args.waiting.now l c.args.flash.now));
       behind = refl;
     }
 

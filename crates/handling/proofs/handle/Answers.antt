@@ -77,7 +77,7 @@ unfolding handled
 returns-in-BadTransfer c =
     rw (← c.classify-v.ensures, c.in-BadTransfer.is, ← c.destination.ensures)
     (record {
-      answered = record { called = λ l. c.fault.ensures c.args.waiting.now l c.args.flash.now; behind = refl };
+      answered = record { called = λ l. rw c.code.ensures at (c.fault.ensures c.args.waiting.now l c.args.flash.now); behind = refl };
       head_kept = λ e. cc;
       buffer_kept = λ e. refl;
     })
@@ -87,7 +87,7 @@ unfolding handled
 returns-in-BadSum c =
     rw (← c.classify-v.ensures, c.in-BadSum.is, ← c.destination-in-BadSum.ensures)
     (record {
-      answered = record { called = λ l. c.fault-in-BadSum.ensures c.args.waiting.now l c.args.flash.now; behind = refl };
+      answered = record { called = λ l. rw c.code-in-BadSum.ensures at (c.fault-in-BadSum.ensures c.args.waiting.now l c.args.flash.now); behind = refl };
       head_kept = λ e. cc;
       buffer_kept = λ e. refl;
     })

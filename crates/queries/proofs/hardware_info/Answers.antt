@@ -2,4 +2,4 @@
 use Rattle.queries.proofs.hardware_info.Goals as goal
 
 pub returns : goal.returns
-returns c = λ w l d. rw c.two_bytes-size.ensures at (c.reply.ensures w l d)
+returns c = λ w l d. rw (c.two_bytes-size.ensures, c.code.ensures) at (c.reply.ensures w l d)

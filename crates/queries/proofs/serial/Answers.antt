@@ -6,7 +6,7 @@ use Rattle.queries.proofs.serial.Goals as goal
 pub returns-then-len-eq0 : goal.returns-then-len-eq0
 returns-then-len-eq0 c =
     λ w l d. rw (length-used c.args.p.seriallen c.args.p.serial, eq-eqb _ _ c.if-len-eq0.true)
-    (c.reply.ensures w l d)
+    (rw c.code.ensures at (c.reply.ensures w l d))
 
 pub slice_bounds-bytes-end : goal.slice_bounds-bytes-end
 slice_bounds-bytes-end c =
@@ -27,4 +27,4 @@ returns c =
       ne_eqb _ _ c.if-len-eq0.false,
       used-take c.args.p.seriallen c.args.p.serial (omega arith),
     )
-    (c.reply-2.ensures w l d)
+    (rw c.code-2.ensures at (c.reply-2.ensures w l d))

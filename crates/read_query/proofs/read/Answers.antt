@@ -15,7 +15,7 @@ unfolding shown
 returns-then-p-address c =
     let over : c.args.p.size < number_at c.args.args.now 0 + get_or c.args.args.now 2 0 =
     omega (arith, c.if-p-address.true, c.number_at-address.ensures.0, c.wide-n.ensures.0) in
-    λ w' l. rw (lt-leb _ _ over) (c.reply.ensures w' l c.args.flash.now)
+    λ w' l. rw (lt-leb _ _ over) (rw c.code.ensures at (c.reply.ensures w' l c.args.flash.now))
 
 pub longest_results-requires : goal.longest_results-requires
 longest_results-requires c = (unrefused_profile (c.requires.serving.unrefused [] [])).longest_least
@@ -30,7 +30,7 @@ returns-then-longest_results-n c =
     omega (arith, c.if-p-address.false, c.number_at-address.ensures.0, c.wide-n.ensures.0) in
     let over : c.args.p.longest - shortest_reply c.args.p.bus < get_or c.args.args.now 2 0 =
     omega (arith, c.if-longest_results-n.true, c.longest_results.ensures, c.wide-n.ensures.0) in
-    λ w' l. rw (le-leb _ _ within, lt-leb _ _ over) (c.reply-then-longest_results-n.ensures w' l c.args.flash.now)
+    λ w' l. rw (le-leb _ _ within, lt-leb _ _ over) (rw c.code-then-longest_results-n.ensures at (c.reply-then-longest_results-n.ensures w' l c.args.flash.now))
 
 pub overflow_add-start : goal.overflow_add-start
 overflow_add-start c =
@@ -64,4 +64,4 @@ returns c =
     let long : start + c.wide-n.result - start ≡ c.wide-n.result = omega arith in
     λ w' l.
     rw (le-leb _ _ within, le-leb _ _ held, ← c.number_at-address.ensures.0, ← c.wide-n.ensures.0)
-    (rw long at (c.reply-2.ensures w' l c.args.flash.now))
+    (rw (long, c.code-2.ensures) at (c.reply-2.ensures w' l c.args.flash.now))

@@ -2,4 +2,4 @@
 use Rattle.response.proofs.reply.Goals as goal
 
 pub returns : goal.returns
-returns c = λ w l d. rw (c.store.ensures, c.code.ensures)
+returns c = λ w l d. rw c.store.ensures

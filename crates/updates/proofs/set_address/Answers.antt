@@ -20,7 +20,7 @@ returns-then-reserved c =
     (sym c.type_matches.ensures ∙ c.if-not-type_matches.false)
     (sym (rw c.address_taken-own.ensures at c.reserved.ensures) ∙ c.if-reserved.true)
     )
-    (c.reply.ensures w l d)
+    (rw c.code.ensures at (c.reply.ensures w l d))
 
 pub returns : goal.returns
 returns c =
@@ -31,4 +31,4 @@ returns c =
           (sym (rw c.address_taken-own.ensures at c.reserved.ensures) ∙ c.if-reserved.false),
       ← c.address_taken-own.ensures,
     )
-    (rw (c.with_address.ensures w l) at (c.reply-2.ensures w l d))
+    (rw (c.with_address.ensures w l, c.code-2.ensures) at (c.reply-2.ensures w l d))

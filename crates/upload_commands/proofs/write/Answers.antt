@@ -24,7 +24,7 @@ returns-then-not-accepts c =
     let no : accepted c.args.p.size c.args.h.counts.next (number_at c.args.args.now 0) (length (drop 2 c.args.args.now)) ≡ false =
     rw (take_rest c.args.args.now 2, c.number_at-address.ensures.0) at (sym c.accepts.ensures
     ∙ c.if-not-accepts.true) in
-    record { ruled = λ l. rw no (c.reply.ensures c.args.waiting.now l c.args.flash.now); behind = refl }
+    record { ruled = λ l. rw no (rw c.code.ensures at (c.reply.ensures c.args.waiting.now l c.args.flash.now)); behind = refl }
 
 pub take-taken-requires : goal.take-taken-requires
 take-taken-requires c =
@@ -62,7 +62,7 @@ returns c =
     record {
       ruled = λ l.
           rw (yes, ← g)
-          (rw (c.with_counts.ensures c.args.waiting.now c.take-taken.new.waiting l) at (c.reply-2.ensures c.take-taken.new.waiting l
+          (rw (c.with_counts.ensures c.args.waiting.now c.take-taken.new.waiting l, c.code-2.ensures) at (c.reply-2.ensures c.take-taken.new.waiting l
           c.take-taken.new.flash));
       behind = rw same c.take-taken.ensures.waiting_unchanged;
     }
