@@ -33,7 +33,11 @@ impl Tally {
 fn more(counts: bool, n: u16) -> u16
     ensures { result ≡ more counts n }
 {
-    if counts { n.saturating_add(1) } else { n }
+    if counts {
+        n.saturating_add(1).min(Tally::LARGEST_COUNT)
+    } else {
+        n
+    }
 }
 
 // The tally after a frame that was answered by a number, as the C call gives it. No counter rises with 1 to 5.
