@@ -12,11 +12,11 @@ pub fn version(major: u8, minor: u8) -> Result<Version, VersionError>
 {
     match (major, minor) {
         (1, _) => Ok(Version {
-            major,
+            major: 1,
             minor: minor.min(1),
         }),
         (2, _) => Ok(Version {
-            major,
+            major: 2,
             minor: minor.min(2),
         }),
         (0, 0) => Err(VersionError::ApplicationRunning),
