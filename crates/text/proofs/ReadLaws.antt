@@ -11,7 +11,7 @@ use Rattle.std.specs.List.{list_all, position, position_or_len}
 use Rattle.std.proofs.lemmas.Grind.{common_steps}
 use Rattle.std.proofs.lemmas.List.Sums.{prefix_len-le-length}
 use Rattle.text.specs.Counts.{IsPrefixLen}
-use Rattle.text.specs.Read.{space, before, field_at, next_field, next_place, number_of, both, numbers_at, place_after}
+use Rattle.text.specs.Read.{space, before, field_at, next_field, next_place, number_of, both, numbers_at, place_after, place_read}
 use Rattle.text.specs.Read.{digit_of, extended, spelled, BytesRead, hex_right, hex_bytes, pair_value, is_dash}
 
 -- where a test passes first, or the length
@@ -173,6 +173,21 @@ pub place_next : (s s' : List ℕ) (at at' n k r : ℕ) → n ≡ suc k → s' �
     → place_after s at n ≡ r → place_after s' at' k ≡ r
 unfolding place_after
 place_next s s' at at' n k r left same place h = rw (same, place) (rw left at h)
+
+-- the place behind the first wrong one
+pub read_wrong : (most : ℕ) (s : List ℕ) (at at' n k r : ℕ) → n ≡ suc k → number_of most (field_at s at) ≡ None
+    → at' ≡ next_place s at → place_read most s at n ≡ r → at' ≡ r
+unfolding place_read
+read_wrong most s at at' n k r left e place h =
+    let wrong : place_read most s at (suc k) ≡ next_place s at = rw e in
+    place ∙ sym wrong ∙ (rw left at h)
+
+pub read_next : (most : ℕ) (s s' : List ℕ) (at at' n k v r : ℕ) → n ≡ suc k → number_of most (field_at s at) ≡ Some v → s' ≡ s
+    → at' ≡ next_place s at → place_read most s at n ≡ r → place_read most s' at' k ≡ r
+unfolding place_read
+read_next most s s' at at' n k v r left e same place h =
+    let right : place_read most s at (suc k) ≡ place_read most s (next_place s at) k = rw e in
+    rw (same, place) (sym right ∙ (rw left at h))
 
 -- all of them
 pub numbers_end : (most : ℕ) (s : List ℕ) (at n i : ℕ) (xs : List ℕ) (all : Option (List ℕ)) → n ≡ 0 → length xs ≤ i

@@ -67,6 +67,12 @@ unfoldable pub place_after : List ℕ → ℕ → ℕ → ℕ
 place_after s at zero = at
 place_after s at (suc k) = place_after s (next_place s at) k
 
+-- the place after those that are read: behind the first wrong one, if there is one
+unfoldable pub place_read : ℕ → List ℕ → ℕ → ℕ → ℕ
+place_read most s at zero = at
+place_read most s at (suc k) =
+    cond (is_some (number_of most (field_at s at))) (place_read most s (next_place s at) k) (next_place s at)
+
 -- pairs of hexadecimal digits only
 unfoldable pub hex_right : List ℕ → Bool
 hex_right [] = true

@@ -3,7 +3,7 @@ ghost use Rattle.std.specs.Prelude.{◌≡◌, ◌==◌, ◌/◌, ◌<◌, ◌�
 ghost use Rattle.std.specs.List.{list_all};
 ghost use Rattle.std.proofs.lemmas.List.Edits.{sets};
 ghost use Rattle.text.specs.Read.{space, before, is_read, digit_of, extended, number_of, field_at, next_field, next_place};
-ghost use Rattle.text.specs.Read.{numbers_at, place_after, hex_right, pair_value, hex_bytes, is_dash, BytesRead, HexRead};
+ghost use Rattle.text.specs.Read.{numbers_at, place_after, place_read, hex_right, pair_value, hex_bytes, is_dash, BytesRead, HexRead};
 
 // The fields of a line, in order. A wrong field gives None.
 #[derive(Clone, Copy)]
@@ -42,17 +42,28 @@ impl<'a> Fields<'a> {
         number(self.next_field()?, most)
     }
 
-    // The next N fields, as decimal numbers of at most `most`.
-    pub fn numbers<const N: usize>(&mut self, most: u32) -> Option<[usize; N]>
+    // The numbers of the next N fields. After a wrong one no other is read.
+    fn read_numbers<const N: usize>(&mut self, most: u32) -> Option<[usize; N]>
         ensures line { self.new.line.now ≡ self.old.line.now }
         ensures values { result ≡ numbers_at most self.old.line.now self.old.at N }
         ensures place { IsSome result → self.new.at ≡ place_after self.old.line.now self.old.at N }
+        ensures stop { self.new.at ≡ place_read most self.old.line.now self.old.at N }
     {
         let mut values = [0usize; N];
         for value in values.iter_mut() {
             *value = self.number(most)?;
         }
         Some(values)
+    }
+
+    // The next N fields, as decimal numbers of at most `most`. The place is behind the last that was read.
+    pub fn numbers<const N: usize>(&mut self, most: u32) -> Option<[usize; N]>
+        ensures line { self.new.line.now ≡ self.old.line.now }
+        ensures values { result ≡ numbers_at most self.old.line.now self.old.at N }
+        ensures place { IsSome result → self.new.at ≡ place_after self.old.line.now self.old.at N }
+        ensures stop { self.new.at ≡ place_read most self.old.line.now self.old.at N }
+    {
+        self.read_numbers(most)
     }
 
     // The next field, as a byte string: `-` for none, else pairs of hexadecimal digits. Gives how many bytes it has;
