@@ -9,6 +9,7 @@ use bench_output::Output;
 use bench_script::fields::is;
 use bench_script::image::{opened, path_text};
 use bench_settings::shown::{ScriptStatus, status, tell_end};
+use std::alloc::Global;
 use std::env::{Env, FillError};
 use std::fs::{File, Files};
 use std::io::{ErrorKind, IsTerminal, Stdin, Write};
@@ -71,29 +72,47 @@ fn write_status(output: &mut Output, rt: &(impl Env + Files), at: usize, status:
     output.note(done);
 }
 
-// The script in a file; its status.
-fn run_file(session: &mut Session, files: &impl Files<File = File>, path: &[u8]) -> ScriptStatus {
+// A new bench runs the script. What it writes to comes back.
+fn run_bench(
+    output: Output,
+    alloc: Global,
+    files: &impl Files,
+    input: &mut (impl io::Read + IsTerminal),
+) -> io::Result<(Output, ScriptStatus)> {
+    let mut session = Session::new(alloc, output)?;
+    let status = run_script(&mut session, files, input);
+    Ok((session.output, status))
+}
+
+// The script in a file; its status. The bench gets its memory only where there is a script.
+fn run_file(
+    mut output: Output,
+    alloc: Global,
+    files: &impl Files<File = File>,
+    path: &[u8],
+) -> io::Result<(Output, ScriptStatus)> {
     match opened(files, path) {
-        Ok(mut file) => run_script(session, files, &mut file),
+        Ok(mut file) => run_bench(output, alloc, files, &mut file),
         Err(_) => {
-            session.output.say("the script ");
-            session.output.say_raw(path);
-            session.output.say(" cannot be opened\n");
-            ScriptStatus::Unread
+            output.say("the script ");
+            output.say_raw(path);
+            output.say(" cannot be opened\n");
+            Ok((output, ScriptStatus::Unread))
         }
     }
 }
 
 // The script that the first argument names; `-` or none is standard input.
 fn run_named(
-    session: &mut Session,
+    output: Output,
+    alloc: Global,
     rt: &(impl Env + Files<File = File>),
     mut stdin: Stdin,
-) -> ScriptStatus {
+) -> io::Result<(Output, ScriptStatus)> {
     let mut path = [0u8; LONGEST_PATH];
     match argument(rt, 1, &mut path) {
-        Some(name) if !is(name, "-") => run_file(session, rt, name),
-        _ => run_script(session, rt, &mut stdin),
+        Some(name) if !is(name, "-") => run_file(output, alloc, rt, name),
+        _ => run_bench(output, alloc, rt, &mut stdin),
     }
 }
 
@@ -101,10 +120,10 @@ fn run_named(
 const NOT_READ: u8 = 141;
 
 fn main(rt: HostRuntime) -> io::Result<ExitCode> {
-    let mut session = Session::new(rt.alloc(), Output::new(rt.stdout()))?;
-    let status = run_named(&mut session, &rt, rt.stdin());
-    write_status(&mut session.output, &rt, 2, status);
-    match session.finish() {
+    let output = Output::new(rt.stdout());
+    let (mut output, status) = run_named(output, rt.alloc(), &rt, rt.stdin())?;
+    write_status(&mut output, &rt, 2, status);
+    match output.finish() {
         Ok(()) => Ok(ExitCode::SUCCESS),
         Err(e) if e.kind() == ErrorKind::BrokenPipe => Ok(ExitCode::from(NOT_READ)),
         Err(e) => Err(e),

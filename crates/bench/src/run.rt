@@ -92,7 +92,6 @@ pub fn run_next_line(
     match lines::read_line(input, line) {
         Ok(Line::Text(text)) => {
             session.bench.note_line();
-            lines::clean(text);
             let text = lines::without_mark(text).trim_ascii();
             show_and_run_line(session, files, text);
         }

@@ -7,7 +7,7 @@ use std::alloc::{AllocError, Global};
 use std::fs::Files;
 
 // The length of the lent flash.
-const FLASH: usize = 131072;
+pub const FLASH: usize = 131072;
 // One byte more than the flash has, by which a file with too many is told.
 const IMAGE: usize = FLASH + 1;
 // The most pages that a working flash has.

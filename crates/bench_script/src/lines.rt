@@ -4,10 +4,10 @@ use std::io;
 // The mark that some editors put in front of a text.
 const BYTE_ORDER_MARK: &str = "\u{feff}";
 
-#[derive(Drop)]
+#[derive(Clone, Copy)]
 pub enum Line<'a> {
-    // without the line feed
-    Text(&'a mut [u8]),
+    // without the line feed, and clean
+    Text(&'a [u8]),
     // more bytes than can be kept
     Long,
     End,
@@ -19,15 +19,18 @@ fn read_byte(input: &mut impl io::Read) -> io::Result<Option<u8>> {
     Ok((got != 0).then_some(byte[0]))
 }
 
-// A line of n bytes, if the buffer has them all.
+// A line of n bytes, cleaned, if the buffer has them all.
 fn whole<'a>(line: &'a mut [u8], n: usize) -> Line<'a> {
     match line.get_mut(..n) {
-        Some(text) => Line::Text(text),
+        Some(text) => {
+            clean(text);
+            Line::Text(text)
+        }
         None => Line::Long,
     }
 }
 
-// The next line, kept in the buffer. The last one may lack its line feed. std's read_until would keep all of a line, however long.
+// The next line, kept in the buffer and cleaned. The last one may lack its line feed. std's read_until would keep all of a line, however long.
 pub fn read_line<'a>(input: &mut impl io::Read, line: &'a mut [u8]) -> io::Result<Line<'a>> {
     let mut n: usize = 0;
     // nothing says that the input ends, so the bytes are counted up to a number that no line reaches

@@ -1,4 +1,7 @@
 // What a number, a status and a silence mean, and what to do about them. docs/NUMBERS.md has all of them at length.
+ghost use Rattle.std.specs.Prelude.{◌≡◌, true};
+ghost use Rattle.rules.specs.Frames as frames;
+
 use addressing::reserved;
 use alarms::ignored;
 use bench_output::Output;
@@ -188,7 +191,7 @@ fn why_silent(v: Verdict, code: usize) -> SilenceReason {
     }
 }
 
-// A silence in words. What stands between `**` must not be taken for a dead board.
+// A silence in words, where nothing was done. What stands between `**` must not be taken for a dead board.
 fn silence_meaning(silence: SilenceReason) -> &'static str {
     match silence {
         SilenceReason::Running => "  ** no reply: the application runs, the board is alive **\n",
@@ -207,9 +210,16 @@ fn silence_meaning(silence: SilenceReason) -> &'static str {
         SilenceReason::OtherType => {
             "  ** no reply: the hardware type is another board's, this board is alive **\n"
         }
+        SilenceReason::GeneralCall | SilenceReason::Start | SilenceReason::Other => "",
+    }
+}
+
+// A silence after something was done.
+fn done_meaning(silence: SilenceReason) -> &'static str {
+    match silence {
         SilenceReason::GeneralCall => "  a general call goes to all boards: none replies\n",
         SilenceReason::Start => "  start has no reply\n",
-        SilenceReason::Other => "  no reply\n",
+        _ => "  no reply\n",
     }
 }
 
@@ -250,13 +260,25 @@ pub fn look_for(o: Outcome) -> &'static str {
     }
 }
 
+// Whether a silence must not be missed: the frame was ignored, or was for another hardware type.
+fn is_missed(v: Verdict, silence: SilenceReason) -> bool
+    ensures { frames.ignored v ≡ true → result ≡ true }
+{
+    ignored(v) || silence == SilenceReason::OtherType
+}
+
 // Why a call answers 1; whether that must not be missed.
 fn tell_silence(output: &mut Output, v: Verdict, code: usize) -> bool {
     tell_number(output, 1);
     let silence = why_silent(v, code);
-    output.say(silence_meaning(silence));
-    output.say(advice(silence));
-    ignored(v) || silence == SilenceReason::OtherType
+    let missed = is_missed(v, silence);
+    if missed {
+        output.say(silence_meaning(silence));
+        output.say(advice(silence));
+    } else {
+        output.say(done_meaning(silence));
+    }
+    missed
 }
 
 // Why a frame that RS485 drops gets no reply; nothing for any other answer.
